@@ -1,0 +1,5 @@
+pub mod Noted
+pub mod Clocks
+pub mod ClocksStand
+pub mod Totals
+pub mod Loads

@@ -1,0 +1,52 @@
+-- Vector clocks. An event's clock, which the call reach answers, has eight counts, one for each station: how many of that
+-- station's events come before it for certain, itself counted at its own station.
+use Prim.Native.Nat.{ℕ, zero, suc, max, _≤_}
+use lib.ListN.{length, getD, set, replicate}
+use mathlib.Core.List.{List, [], _∷_}
+use mathlib.Core.Path.{_≡_}
+use Rattle.history.specs.Histories.{History, There, awaits, count, event}
+use Rattle.history.specs.Notes.{Made}
+use Rattle.history.specs.declared.Event.{Event}
+use Rattle.std.specs.declared.option.Option.the-variants.{Some}
+
+abbrev pub zeros : List ℕ
+zeros = replicate 8 0
+
+-- the larger count at each place
+abbrev pub larger : List ℕ → List ℕ → List ℕ
+larger [] v = []
+larger (a ∷ u) [] = []
+larger (a ∷ u) (b ∷ v) = max a b ∷ larger u v
+
+-- v is the clock of event number n of station s: the larger, place by place, of the clock of the station's previous event
+-- and the clock of the last event awaited, and then its own number at its own station. Where there is no such event (the
+-- number is 0) the clock is all zeros.
+pub data Clock (h : History) : ℕ → ℕ → List ℕ → Type 0 where
+  missing : {s : ℕ} {v : List ℕ} → v ≡ zeros → Clock h s zero v
+  of-event : {s n : ℕ} {v : List ℕ} (e : Event) (previous awaited : List ℕ)
+    → event h s (suc n) ≡ Some e
+    → Clock h s n previous
+    → Clock h (e .wait .station) (e .wait .count) awaited
+    → v ≡ set (larger previous awaited) s (suc n)
+    → Clock h s (suc n) v
+
+-- v is the clock of the event, and the only one
+pub record OneClock (h : History) (s n : ℕ) (v : List ℕ) : Type 0 where
+  pub is : Clock h s n v
+  pub only : (u : List ℕ) → Clock h s n u → u ≡ v
+
+-- What holds of a clock in every history made by notes. An event is within v when its number is at most v's count at its
+-- station.
+pub record Reaches (h : History) (s n : ℕ) (v : List ℕ) : Type 0 where
+  pub eight : length v ≡ 8
+  pub own : getD v s 0 ≡ n
+  -- v counts only events that are there
+  pub there : (t : ℕ) → getD v t 0 ≤ count h t
+  -- what an event within v awaits is within v
+  pub closed : (t k : ℕ) (e : Event) → event h t k ≡ Some e → k ≤ getD v t 0 → (x : ℕ) → awaits e x ≤ getD v x 0
+  -- the clock of an event within v is nowhere above v
+  pub within : (t k : ℕ) (u : List ℕ) → Clock h t k u → k ≤ getD v t 0 → (x : ℕ) → getD u x 0 ≤ getD v x 0
+
+-- In a history made by notes each event has exactly one clock, of eight counts and closed under awaiting.
+abbrev pub Clocks-stand : Type 0
+Clocks-stand = (h : History) → Made h → (s n : ℕ) → There h s n → (v : List ℕ) × OneClock h s n v × Reaches h s n v

@@ -1,0 +1,5 @@
+pub mod Refusals
+pub mod Histories
+pub mod Notes
+pub mod RunFiles
+pub mod Clocks
