@@ -1,19 +1,18 @@
 -- In a history made by notes each event has exactly one clock, which is closed under awaiting.
 use Prim.Native.Nat.{ℕ, zero, suc, max, _<_, _≤_}
+use native.Mathlib.Nat.{le-trans}
 use native.Mathlib.Omega.{arith}
 use lib.Dec.{eqb}
-use lib.ListN.{length, getD, set, replicate, length-set}
-use mathlib.Core.Bool.{Bool, true, false, cond}
-use mathlib.Core.List.{List, [], _∷_}
-use mathlib.Core.Logic.{_⊎_, inl, inr, ⊎-elim}
+use lib.ListN.{length, getD, set, length-set}
+use mathlib.Core.List.{List, []}
+use mathlib.Core.Logic.{⊎-elim}
 use mathlib.Core.Path.{_≡_, refl, sym, ap, _∙_, subst, subst₂}
 use Rattle.std.proofs.shelf.Lists.{getD-set-same, getD-set-other, getD-replicate, getD-past, length-replicate}
 use Rattle.std.proofs.shelf.Tests.{cases-eq, cases-lt, cond-both, eqb-true}
-use Rattle.std.specs.declared.option.Option.the-variants.{Some}
-use Rattle.history.proofs.Noted.{Accepted, accepted, opened-count, on-sheet, same-event, nth-there, event-old, event-new, not-old, count-same, count-grows}
+use Rattle.history.proofs.Noted.{Accepted, accepted, opened-count, on-sheet, event-old, event-new, not-old, count-same, count-grows}
 use Rattle.history.proofs.Clocks.{getD-larger, length-larger, eight, unique, kept, clock-there}
 use Rattle.history.specs.Clocks.{Clock, missing, of-event, larger, zeros, OneClock, Reaches, Clocks-stand}
-use Rattle.history.specs.Histories.{History, There, opened, count, noted, event, events-of, awaits}
+use Rattle.history.specs.Histories.{History, There, opened, count, noted, wait, wait-of, awaits}
 use Rattle.history.specs.Notes.{Made, empty, more}
 use Rattle.history.specs.declared.Event.{Event}
 
@@ -21,7 +20,7 @@ use Rattle.history.specs.declared.Event.{Event}
 record Facts (h : History) (s n : ℕ) (v : List ℕ) : Type 0 where
   own : s < 8 → getD v s 0 ≡ n
   there : (t : ℕ) → getD v t 0 ≤ count h t
-  waits : (e : Event) → event h s n ≡ Some e → (x : ℕ) → awaits e x ≤ getD v x 0
+  waits : (x : ℕ) → awaits (wait h s n) x ≤ getD v x 0
   within : (t k : ℕ) (u : List ℕ) → Clock h t k u → k ≤ getD v t 0 → (x : ℕ) → getD u x 0 ≤ getD v x 0
 
 record Sound (h : History) : Type 0 where
@@ -32,16 +31,20 @@ record Sound (h : History) : Type 0 where
 zeros-at : (t : ℕ) → getD zeros t 0 ≡ 0
 zeros-at t = ⊎-elim (λ (l : t < 8). getD-replicate 8 t 0 0 l) (λ l. getD-past zeros t 0 l) (cases-lt t 8)
 
+-- number 0 awaits nothing
+none-awaited : (x : ℕ) → awaits record { station = 0; count = 0 } x ≡ 0
+none-awaited x = cond-both (eqb 0 x) 0 0 (λ n. n ≡ 0) (λ _. refl) (λ _. refl)
+
 clock-zero : {h : History} {t k : ℕ} {u : List ℕ} → Clock h t k u → k ≡ 0 → (x : ℕ) → getD u x 0 ≡ 0
 clock-zero (missing z) _ x = ap (λ y. getD y x 0) z ∙ zeros-at x
-clock-zero (of-event {n = n} _ _ _ _ _ _ _) p x = let q : ⊥ = omega arith in absurd q
+clock-zero (of-event {n = n} _ _ _ _ _ _) p x = let q : ⊥ = omega arith in absurd q
 
 -- what holds of the clock of number 0
 missing-facts : {h : History} {s n : ℕ} {v : List ℕ} → Clock h s n v → n ≡ 0 → Facts h s n v
 missing-facts {h} {s} {n} {v} c z = record
   { own = λ _. clock-zero c z s ∙ sym z
   ; there = λ t. omega (arith, clock-zero c z t)
-  ; waits = λ e p x. let q : _≡_ {A = ℕ} 0 1 = cc in omega arith
+  ; waits = λ x. subst (λ i. awaits (wait h s i) x ≤ getD v x 0) (sym z) (omega (arith, none-awaited x))
   ; within = λ t k u d l x. omega (arith, clock-zero d (none t k l) x)
   }
   where
@@ -61,7 +64,7 @@ module _ (h : History) (s : ℕ) (e : Event) (ok : Accepted h s e) (sound : Soun
   old : {t n : ℕ} {v : List ℕ} → n ≤ count h t → Clock (noted h s e) t n v → Clock h t n v
   old {t} {n} {v} l c =
       let u = sound .has t n l in
-      subst (λ x. Clock h t n x) (unique (kept s e (ok .on) (u .1)) c) (u .1)
+      subst (λ x. Clock h t n x) (unique (kept h s e (ok .on) (u .1)) c) (u .1)
 
   previous : (v : List ℕ) × Clock h s (count h s) v
   previous = sound .has s (count h s) (omega arith)
@@ -75,11 +78,14 @@ module _ (h : History) (s : ℕ) (e : Event) (ok : Accepted h s e) (sound : Soun
   newest : List ℕ
   newest = set merged s (suc (count h s))
 
+  wait-new : wait (noted h s e) s (suc (count h s)) ≡ e .wait
+  wait-new = ap wait-of (event-new h s e (ok .on))
+
   newest-clock : Clock (noted h s e) s (suc (count h s)) newest
   unfolding newest merged
   newest-clock =
-      of-event e (previous .0) (awaited .0) (event-new h s e (ok .on))
-        (kept s e (ok .on) (previous .1)) (kept s e (ok .on) (awaited .1)) refl
+      of-event (previous .0) (awaited .0) (omega (arith, count-same h s e (ok .on))) (kept h s e (ok .on) (previous .1))
+        (subst (λ w. Clock (noted h s e) (w .station) (w .count) (awaited .0)) (sym wait-new) (kept h s e (ok .on) (awaited .1))) refl
 
   previous-facts : Facts h s (count h s) (previous .0)
   previous-facts = sound .facts s (count h s) (previous .0) (previous .1)
@@ -113,7 +119,7 @@ module _ (h : History) (s : ℕ) (e : Event) (ok : Accepted h s e) (sound : Soun
       (λ ne. omega (arith, newest-other t ne, previous-facts .there t, awaited-facts .there t, count-grows h s e (ok .on) t))
       (cases-eq t s)
 
-  newest-waits : (x : ℕ) → awaits e x ≤ getD newest x 0
+  newest-waits : (x : ℕ) → awaits (e .wait) x ≤ getD newest x 0
   newest-waits x =
       cond-both (eqb (e .wait .station) x) (e .wait .count) 0 (λ n. n ≤ getD newest x 0)
         (λ p. subst (λ y. e .wait .count ≤ getD newest y 0) (eqb-true (e .wait .station) x p) at-station)
@@ -163,7 +169,7 @@ module _ (h : History) (s : ℕ) (e : Event) (ok : Accepted h s e) (sound : Soun
   newest-facts = record
     { own = λ _. newest-same
     ; there = newest-there
-    ; waits = λ x p y. subst (λ w. awaits w y ≤ getD newest y 0) (same-event e x (sym (event-new h s e (ok .on)) ∙ p)) (newest-waits y)
+    ; waits = λ x. subst (λ w. awaits w x ≤ getD newest x 0) (sym wait-new) (newest-waits x)
     ; within = newest-within
     }
 
@@ -173,7 +179,7 @@ module _ (h : History) (s : ℕ) (e : Event) (ok : Accepted h s e) (sound : Soun
       record
         { own = f .own
         ; there = λ x. omega (arith, f .there x, count-grows h s e (ok .on) x)
-        ; waits = λ x p. f .waits x (sym (event-old h s e (ok .on) t n (clock-there c)) ∙ p)
+        ; waits = λ x. subst (λ w. awaits w x ≤ getD v x 0) (sym (ap wait-of (event-old h s e (ok .on) t n (clock-there c)))) (f .waits x)
         ; within = λ x k u d l. f .within x k u (old (omega (arith, f .there x)) d) l
         }
 
@@ -185,7 +191,7 @@ module _ (h : History) (s : ℕ) (e : Event) (ok : Accepted h s e) (sound : Soun
     }
     where
       has-old : (t n : ℕ) → n ≤ count h t → (v : List ℕ) × Clock (noted h s e) t n v
-      has-old t n b = let o = sound .has t n b in (o .0, kept s e (ok .on) (o .1))
+      has-old t n b = let o = sound .has t n b in (o .0, kept h s e (ok .on) (o .1))
 
       has-new : (t n : ℕ) → n ≤ count (noted h s e) t → count h t < n → (v : List ℕ) × Clock (noted h s e) t n v
       has-new t n l b =
@@ -212,8 +218,8 @@ clocks-stand h m s n l =
       { eight = eight (c .1)
       ; own = f .own (omega (arith, on-sheet h s n l, k .short))
       ; there = f .there
-      ; closed = λ t i e at b x.
-          let d = k .has t i (nth-there (events-of h t) i e at) in
-          omega (arith, k .facts t i (d .0) (d .1) .waits e at x, f .within t i (d .0) (d .1) b x)
+      ; closed = λ t i b x.
+          let d = k .has t i (le-trans b (f .there t)) in
+          omega (arith, k .facts t i (d .0) (d .1) .waits x, f .within t i (d .0) (d .1) b x)
       ; within = f .within
       })

@@ -1,3 +1,4 @@
+pub mod Nth
 pub mod Noted
 pub mod Clocks
 pub mod ClocksStand

@@ -12,34 +12,10 @@ use Rattle.std.proofs.shelf.Tests.{cases-eq, cases-lt}
 use Rattle.std.proofs.shelf.Ways.{tells}
 use Rattle.std.specs.declared.option.Option.the-variants.{Some}
 use Rattle.std.specs.declared.result.Result.the-variants.{Ok}
+use Rattle.history.proofs.Nth.{nth-push, nth-last}
 use Rattle.history.specs.Histories.{History, There, opened, events-of, count, noted, nth, event}
 use Rattle.history.specs.Notes.{note-answer}
 use Rattle.history.specs.declared.Event.{Event}
-
-pub same-event : (a b : Event) → Some a ≡ Some b → a ≡ b
-same-event a b p = cc
-
--- an event that is there is kept when another is put at the end
-nth-push : (es : List Event) (x : Event) (n : ℕ) → n ≤ length es → nth (es ++ x ∷ []) n ≡ nth es n
-nth-push es x zero l = refl
-nth-push [] x (suc n) l = let z : ⊥ = omega arith in absurd z
-nth-push (e ∷ es) x (suc zero) l = refl
-nth-push (e ∷ es) x (suc (suc n)) l = nth-push es x (suc n) (omega arith)
-
-nth-last : (es : List Event) (x : Event) → nth (es ++ x ∷ []) (suc (length es)) ≡ Some x
-nth-last [] x = refl
-nth-last (e ∷ es) x = nth-last es x
-
-pub nth-there : (es : List Event) (n : ℕ) (e : Event) → nth es n ≡ Some e → n ≤ length es
-nth-there es zero e p = omega arith
-nth-there [] (suc n) e p = let z : _≡_ {A = ℕ} 0 1 = cc in omega arith
-nth-there (x ∷ es) (suc zero) e p = omega arith
-nth-there (x ∷ es) (suc (suc n)) e p = let l = nth-there es (suc n) e p in omega arith
-
-pub nth-has : (es : List Event) (n : ℕ) → n < length es → (e : Event) × (nth es (suc n) ≡ Some e)
-nth-has [] n l = let z : ⊥ = omega arith in absurd z
-nth-has (x ∷ es) zero l = (x, refl)
-nth-has (x ∷ es) (suc n) l = nth-has es n (omega arith)
 
 module _ (h : History) (s : ℕ) (e : Event) (on : s < length h) where
   pub events-same : events-of (noted h s e) s ≡ events-of h s ++ e ∷ []

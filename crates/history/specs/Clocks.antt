@@ -4,10 +4,8 @@ use Prim.Native.Nat.{ℕ, zero, suc, max, _≤_}
 use lib.ListN.{length, getD, set, replicate}
 use mathlib.Core.List.{List, [], _∷_}
 use mathlib.Core.Path.{_≡_}
-use Rattle.history.specs.Histories.{History, There, awaits, count, event}
+use Rattle.history.specs.Histories.{History, There, awaits, count, wait}
 use Rattle.history.specs.Notes.{Made}
-use Rattle.history.specs.declared.Event.{Event}
-use Rattle.std.specs.declared.option.Option.the-variants.{Some}
 
 abbrev pub zeros : List ℕ
 zeros = replicate 8 0
@@ -23,10 +21,10 @@ larger (a ∷ u) (b ∷ v) = max a b ∷ larger u v
 -- number is 0) the clock is all zeros.
 pub data Clock (h : History) : ℕ → ℕ → List ℕ → Type 0 where
   missing : {s : ℕ} {v : List ℕ} → v ≡ zeros → Clock h s zero v
-  of-event : {s n : ℕ} {v : List ℕ} (e : Event) (previous awaited : List ℕ)
-    → event h s (suc n) ≡ Some e
+  of-event : {s n : ℕ} {v : List ℕ} (previous awaited : List ℕ)
+    → suc n ≤ count h s
     → Clock h s n previous
-    → Clock h (e .wait .station) (e .wait .count) awaited
+    → Clock h (wait h s (suc n) .station) (wait h s (suc n) .count) awaited
     → v ≡ set (larger previous awaited) s (suc n)
     → Clock h s (suc n) v
 
@@ -43,7 +41,7 @@ pub record Reaches (h : History) (s n : ℕ) (v : List ℕ) : Type 0 where
   -- v counts only events that are there
   pub there : (t : ℕ) → getD v t 0 ≤ count h t
   -- what an event within v awaits is within v
-  pub closed : (t k : ℕ) (e : Event) → event h t k ≡ Some e → k ≤ getD v t 0 → (x : ℕ) → awaits e x ≤ getD v x 0
+  pub closed : (t k : ℕ) → k ≤ getD v t 0 → (x : ℕ) → awaits (wait h t k) x ≤ getD v x 0
   -- the clock of an event within v is nowhere above v
   pub within : (t k : ℕ) (u : List ℕ) → Clock h t k u → k ≤ getD v t 0 → (x : ℕ) → getD u x 0 ≤ getD v x 0
 

@@ -6,6 +6,7 @@ use lib.ListN.{length, getD, set, replicate}
 use mathlib.Core.Bool.{cond}
 use mathlib.Core.List.{List, [], _∷_, _++_}
 use Rattle.history.specs.declared.Event.{Event}
+use Rattle.history.specs.declared.Wait.{Wait}
 use Rattle.std.specs.declared.option.Option.{Option}
 use Rattle.std.specs.declared.option.Option.the-variants.{Some, None}
 
@@ -37,12 +38,12 @@ total (es ∷ h) = length es + total h
 abbrev pub noted : History → ℕ → Event → History
 noted h s e = set h s (events-of h s ++ e ∷ [])
 
--- the n-th event of a list, counted from 1
-abbrev pub nth : List Event → ℕ → Option Event
-nth es zero = None
+-- the n-th of a list, counted from 1
+abbrev pub nth : {A : Type 0} → List A → ℕ → Option A
+nth xs zero = None
 nth [] (suc n) = None
-nth (e ∷ es) (suc zero) = Some e
-nth (e ∷ es) (suc (suc n)) = nth es (suc n)
+nth (x ∷ xs) (suc zero) = Some x
+nth (x ∷ xs) (suc (suc n)) = nth xs (suc n)
 
 -- event number n of station s, where there is one
 abbrev pub event : History → ℕ → ℕ → Option Event
@@ -52,6 +53,14 @@ event h s n = nth (events-of h s) n
 abbrev pub There : History → ℕ → ℕ → Type 0
 There h s n = (0 < n) × (n ≤ count h s)
 
--- how many of station t's events the event awaits: always its first ones
-abbrev pub awaits : Event → ℕ → ℕ
-awaits e t = cond (eqb (e .wait .station) t) (e .wait .count) 0
+-- what event number n of station s waits for; nothing where it is not there
+abbrev pub wait-of : Option Event → Wait
+wait-of None = record { station = 0; count = 0 }
+wait-of (Some e) = e .wait
+
+abbrev pub wait : History → ℕ → ℕ → Wait
+wait h s n = wait-of (event h s n)
+
+-- how many of station t's events a wait names: always the first ones
+abbrev pub awaits : Wait → ℕ → ℕ
+awaits w t = cond (eqb (w .station) t) (w .count) 0

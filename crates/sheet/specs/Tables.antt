@@ -1,0 +1,38 @@
+-- What a table holds.
+use Prim.Native.Nat.{ℕ, _<_}
+use lib.ListN.{length, getD, take, replicate}
+use mathlib.Core.List.{List, [], map}
+use mathlib.Core.Path.{_≡_}
+use Rattle.history.specs.Clocks.{Clock, zeros}
+use Rattle.history.specs.Histories.{History, nth}
+use Rattle.sheet.specs.declared.table.Slot.{Slot}
+use Rattle.sheet.specs.declared.table.Station.{Station}
+use Rattle.sheet.specs.declared.table.Table.{Table}
+use Rattle.std.specs.declared.option.Option.{Option}
+use Rattle.std.specs.declared.option.Option.the-variants.{Some, None}
+
+-- the slots of a station that hold its events
+abbrev pub slots : Station → List Slot
+slots s = take (s .len) (s .slots)
+
+abbrev pub rows : Table → List (List Slot)
+rows t = map slots (t .stations)
+
+abbrev pub row : Table → ℕ → List Slot
+row t s = getD (rows t) s []
+
+abbrev pub blank : List (List Slot)
+blank = replicate 8 []
+
+-- the history that the first n rows hold
+abbrev pub held : ℕ → Table → History
+held n t = map (map (λ (x : Slot). x .event)) (take n (rows t))
+
+-- the clock kept with each event is its clock
+abbrev pub Kept : ℕ → Table → Type 0
+Kept n t = (s k : ℕ) (x : Slot) → s < n → nth (row t s) k ≡ Some x → Clock (held n t) s k (x .clock)
+
+-- the clock kept in a slot; all zeros where there is none
+abbrev pub counts : Option Slot → List ℕ
+counts None = zeros
+counts (Some x) = x .clock

@@ -1,0 +1,80 @@
+// The calls of a sheet.
+ghost use Prim.Native.Nat.{_≤_};
+ghost use lib.ListN.{length};
+ghost use mathlib.Core.Bool.{true};
+ghost use mathlib.Core.Path.{_≡_};
+ghost use Rattle.history.specs.Histories.{fresh, count, opened};
+ghost use Rattle.history.specs.Notes.{note-answer, after-note, open-answer, after-open, placed as at-place};
+ghost use Rattle.sheet.specs.Sheets.{history};
+ghost use Rattle.std.specs.Results.{isErr};
+use crate::clocks::merged;
+use crate::table::EVENTS;
+use crate::table::Slot;
+use crate::table::Table;
+use crate::types::Sheet;
+use history::Event;
+use history::Refusal;
+use history::Refused;
+use history::Wait;
+
+// The largest variable.
+const VARIABLES: u8 = 31;
+
+// An answer with the place of its refusal.
+fn placed(answer: Result<(), Refusal>, place: u16) -> Result<(), Refused>
+    ensures { λ r. ⌜ r ≡ at-place place answer ⌝ }
+{
+    match answer {
+        Ok(()) => Ok(()),
+        Err(refusal) => Err(Refused { refusal, place }),
+    }
+}
+
+impl Sheet {
+    // A sheet of one station without an event.
+    pub fn new() -> Sheet
+        ensures { λ r. ⌜ history r ≡ fresh ⌝ }
+    {
+        Sheet { stations: 1, table: Table::new() }
+    }
+
+    // How many stations the sheet has.
+    pub fn stations(&self) -> u8
+        ensures { λ r. ⌜ r ≡ length (history (now (self .entry))) ⌝ }
+    {
+        self.stations
+    }
+
+    // How many events the station holds: none where it is not on the sheet.
+    pub fn events(&self, station: u8) -> u8
+        ensures { λ r. ⌜ r ≡ count (history (now (self .entry))) station ⌝ }
+    {
+        if station >= self.stations {
+            return 0;
+        }
+        self.table.events(station)
+    }
+
+    // The first reason that applies when the event is noted to the station.
+    fn accepts(&self, station: u8, event: Event) -> Result<(), Refusal>
+        ensures { λ r. ⌜ r ≡ note-answer (history (now (self .entry))) station event ⌝ }
+    {
+        let Wait { station: awaited, count } = event.wait;
+        if station >= self.stations() {
+            return Err(Refusal::NoSuchStation);
+        }
+        if event.variable > VARIABLES {
+            return Err(Refusal::VariableRange);
+        }
+        if self.events(station) >= EVENTS {
+            return Err(Refusal::StationFull);
+        }
+        if awaited >= self.stations() || count == 0 && awaited != 0 {
+            return Err(Refusal::AwaitedStation);
+        }
+        if count > self.events(awaited) {
+            return Err(Refusal::AwaitedCount);
+        }
+        Ok(())
+    }
+}

@@ -1,0 +1,7 @@
+// The batch sheet: the events of up to eight stations with their waits and their vector clocks.
+mod calls;
+mod clocks;
+mod table;
+mod types;
+
+pub use types::Sheet;
