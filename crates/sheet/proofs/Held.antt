@@ -12,10 +12,10 @@ use Rattle.std.specs.declared.option.Option.the-variants.{Some, None}
 use Rattle.history.proofs.Clocks.{kept, clock-prop}
 use Rattle.history.proofs.Noted.{Accepted, count-same, event-new}
 use Rattle.history.proofs.Nth.{same-some, nth-push, nth-last, nth-there, nth-has}
-use Rattle.history.specs.Clocks.{Clock, missing, of-event, larger, zeros}
+use Rattle.history.specs.Clocks.{Clock, missing, of-event}
 use Rattle.history.specs.Histories.{History, opened, events-of, count, noted, nth, wait, wait-of}
 use Rattle.history.specs.declared.Event.{Event}
-use Rattle.sheet.specs.Tables.{rows, row, blank, held, Kept, counts}
+use Rattle.sheet.specs.Tables.{rows, row, blank, held, Kept, counts, next-clock}
 use Rattle.sheet.specs.declared.table.Slot.{Slot}
 use Rattle.sheet.specs.declared.table.Table.{Table}
 
@@ -94,7 +94,7 @@ module _ (n : ℕ) (t t′ : Table) (s : ℕ) (x : Slot) (on : s < n) (fits : n 
 
   -- the new clock is merged from those of the station's last event and of the last event awaited
   module _ (ok : Accepted (held n t) s (x .event)) (all : Kept n t)
-      (new : x .clock ≡ set (larger (counts (nth (row t s) (length (row t s)))) (counts (nth (row t (x .event .wait .station)) (x .event .wait .count)))) s (suc (length (row t s)))) where
+      (new : x .clock ≡ next-clock t s (x .event .wait)) where
     wait-new : wait (noted (held n t) s (x .event)) s (suc (length (row t s))) ≡ x .event .wait
     wait-new =
         ap (λ k. wait (noted (held n t) s (x .event)) s (suc k)) (sym (held-count n t s on fits))

@@ -1,10 +1,11 @@
 -- What a table holds.
-use Prim.Native.Nat.{ℕ, _<_}
-use lib.ListN.{length, getD, take, replicate}
+use Prim.Native.Nat.{ℕ, suc, _<_}
+use lib.ListN.{length, getD, set, take, replicate}
 use mathlib.Core.List.{List, [], map}
 use mathlib.Core.Path.{_≡_}
-use Rattle.history.specs.Clocks.{Clock, zeros}
+use Rattle.history.specs.Clocks.{Clock, larger, zeros}
 use Rattle.history.specs.Histories.{History, nth}
+use Rattle.history.specs.declared.Wait.{Wait}
 use Rattle.sheet.specs.declared.table.Slot.{Slot}
 use Rattle.sheet.specs.declared.table.Station.{Station}
 use Rattle.sheet.specs.declared.table.Table.{Table}
@@ -36,3 +37,8 @@ Kept n t = (s k : ℕ) (x : Slot) → s < n → nth (row t s) k ≡ Some x → C
 abbrev pub counts : Option Slot → List ℕ
 counts None = zeros
 counts (Some x) = x .clock
+
+-- the clock of station s's next event, with that wait, merged from the clocks that are kept
+abbrev pub next-clock : Table → ℕ → Wait → List ℕ
+next-clock t s w =
+    set (larger (counts (nth (row t s) (length (row t s)))) (counts (nth (row t (w .station)) (w .count)))) s (suc (length (row t s)))

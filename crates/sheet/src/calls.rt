@@ -3,11 +3,11 @@ ghost use Prim.Native.Nat.{_≤_};
 ghost use lib.ListN.{length};
 ghost use mathlib.Core.Bool.{true};
 ghost use mathlib.Core.Path.{_≡_};
-ghost use Rattle.history.specs.Histories.{fresh, count, opened};
-ghost use Rattle.history.specs.Notes.{note-answer, after-note, open-answer, after-open, placed as at-place};
+ghost use Rattle.history.specs.Histories.{fresh, count, opened, noted};
+ghost use Rattle.history.specs.Notes.{allowed-count, note-answer, after-note, open-answer, after-open, placed as at-place};
 ghost use Rattle.sheet.specs.Sheets.{history};
 ghost use Rattle.std.specs.Results.{isErr};
-use crate::clocks::merged;
+ghost use Rattle.std.specs.declared.result.Result.the-variants.{Ok};
 use crate::table::EVENTS;
 use crate::table::Slot;
 use crate::table::Table;
@@ -16,6 +16,9 @@ use history::Event;
 use history::Refusal;
 use history::Refused;
 use history::Wait;
+
+// The most stations.
+const STATIONS: u8 = 8;
 
 // The largest variable.
 const VARIABLES: u8 = 31;
@@ -35,7 +38,15 @@ impl Sheet {
     pub fn new() -> Sheet
         ensures { λ r. ⌜ history r ≡ fresh ⌝ }
     {
-        Sheet { stations: 1, table: Table::new() }
+        Sheet::empty(1)
+    }
+
+    // A sheet of that many stations without an event.
+    fn empty(count: u8) -> Sheet
+        requires { ⌜ allowed-count count ≡ true ⌝ }
+        ensures { λ r. ⌜ history r ≡ opened count ⌝ }
+    {
+        Sheet { stations: count, table: Table::new() }
     }
 
     // How many stations the sheet has.
@@ -76,5 +87,46 @@ impl Sheet {
             return Err(Refusal::AwaitedCount);
         }
         Ok(())
+    }
+
+    // Puts an event that is accepted at the end of the station, with its clock.
+    fn append(&mut self, station: u8, event: Event)
+        requires { ⌜ note-answer (history (now self)) station event ≡ Ok tt ⌝ }
+        ensures { λ _. ⌜ history (now (self .exit)) ≡ noted (history (now (self .entry))) station event ⌝ }
+    {
+        let clock = self.table.next_clock(station, event.wait);
+        self.table.push(station, Slot { event, clock });
+    }
+
+    fn put(&mut self, station: u8, event: Event) -> Result<(), Refusal>
+        ensures answer { λ r. ⌜ r ≡ note-answer (history (now (self .entry))) station event ⌝ }
+        ensures after { λ _. ⌜ history (now (self .exit)) ≡ after-note (history (now (self .entry))) station event ⌝ }
+        ensures kept { λ r. ⌜ (isErr r ≡ true → now (self .exit) ≡ now (self .entry)) ⌝ }
+    {
+        self.accepts(station, event)?;
+        self.append(station, event);
+        Ok(())
+    }
+
+    // Makes the sheet that many empty stations.
+    pub fn open(&mut self, count: u8) -> Result<(), Refused>
+        ensures answer { λ r. ⌜ r ≡ at-place 0 (open-answer count) ⌝ }
+        ensures after { λ _. ⌜ history (now (self .exit)) ≡ after-open (history (now (self .entry))) count ⌝ }
+        ensures kept { λ r. ⌜ (isErr r ≡ true → now (self .exit) ≡ now (self .entry)) ⌝ }
+    {
+        if count < 1 || count > STATIONS {
+            return placed(Err(Refusal::StationCount), 0);
+        }
+        *self = Sheet::empty(count);
+        Ok(())
+    }
+
+    // Notes one event at the end of a station.
+    pub fn note(&mut self, station: u8, event: Event) -> Result<(), Refused>
+        ensures answer { λ r. ⌜ r ≡ at-place 0 (note-answer (history (now (self .entry))) station event) ⌝ }
+        ensures after { λ _. ⌜ history (now (self .exit)) ≡ after-note (history (now (self .entry))) station event ⌝ }
+        ensures kept { λ r. ⌜ (isErr r ≡ true → now (self .exit) ≡ now (self .entry)) ⌝ }
+    {
+        placed(self.put(station, event), 0)
     }
 }

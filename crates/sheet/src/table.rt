@@ -4,7 +4,8 @@ ghost use lib.ListN.{length, set};
 ghost use mathlib.Core.List.{[], _∷_, _++_};
 ghost use mathlib.Core.Path.{_≡_};
 ghost use Rattle.history.specs.Histories.{nth};
-ghost use Rattle.sheet.specs.Tables.{slots, rows, row, blank, counts};
+ghost use Rattle.sheet.specs.Tables.{slots, rows, row, blank, counts, next-clock};
+use crate::clocks::merged;
 use history::Event;
 use history::Wait;
 
@@ -105,6 +106,21 @@ impl Table {
             Some(slot) => slot.clock,
             None => [0; 8],
         }
+    }
+
+    // The clock of the station's next event, with that wait.
+    pub(crate) fn next_clock(&self, station: u8, wait: Wait) -> [u8; 8]
+        requires there { ⌜ station < 8 ⌝ }
+        requires awaited { ⌜ wait .station < 8 ⌝ }
+        requires room { ⌜ length (row (now self) station) < 64 ⌝ }
+        ensures { λ r. ⌜ r ≡ next-clock (now (self .entry)) station wait ⌝ }
+    {
+        let number = self.events(station);
+        let previous = self.clock(station, number);
+        let awaited = self.clock(wait.station, wait.count);
+        let mut clock = merged(previous, awaited);
+        clock[station as usize] = number + 1;
+        clock
     }
 
     // One slot more at the end of the station.
