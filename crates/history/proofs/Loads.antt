@@ -1,20 +1,24 @@
 -- A load takes its records in turn, and its refusal's place is at most 513.
 use Prim.Native.Nat.{ℕ, zero, suc, _+_, _*_, _<_, _≤_}
+use native.Mathlib.Numerals.{add-one}
 use native.Mathlib.Omega.{arith}
 use lib.ListN.{length, getD, drop, length-set}
+use mathlib.Core.Bool.{cond}
 use mathlib.Core.List.{List, [], _∷_, _++_}
 use mathlib.Core.Logic.{⊎-elim}
 use mathlib.Core.Path.{_≡_, refl, sym, ap, _∙_, subst}
 use Rattle.std.proofs.shelf.Lists.{length-replicate}
 use Rattle.std.proofs.shelf.Tests.{cases-eq}
 use Rattle.std.proofs.shelf.Ways.{tells}
+use Rattle.std.specs.Results.{isOk}
 use Rattle.std.specs.declared.result.Result.{Result}
 use Rattle.std.specs.declared.result.Result.the-variants.{Ok, Err}
 use Rattle.history.proofs.Noted.{accepted, opened-count, count-same, count-other}
 use Rattle.history.proofs.Totals.{total-opened, total-noted, total-bound}
 use Rattle.history.specs.Histories.{History, opened, count, total, noted}
-use Rattle.history.specs.Notes.{Answer, note-answer, placed}
-use Rattle.history.specs.RunFiles.{Record, Notes, none, next, Stops, In-turn, Records-in-turn, Load-places, and-then, noting, records, file-answer}
+use Rattle.history.specs.Notes.{Answer, Made, empty, more, note-answer, after-note, placed}
+use Rattle.history.specs.RunFiles.{Record, Notes, none, next, Stops, In-turn, Records-in-turn, Load-places, and-then, noting, records, record-of, file-answer}
+use Rattle.history.specs.declared.Event.{Event}
 use Rattle.history.specs.declared.Refused.{Refused}
 
 -- the same, where n records came before
@@ -103,3 +107,38 @@ load-places file =
   where
     few : file-answer file ≡ Ok tt → getD file 5 0 ≤ 8
     few ok = grind (arith, tells)
+
+-- a history made by notes holds at most 512 events
+pub made-total : (h : History) → Made h → total h ≤ 512
+made-total h m =
+    let small = made-small h m in
+    omega (arith, total-bound h 64 (small .events), small .stations)
+  where
+    made-small : (k : History) → Made k → Small k
+    made-small k (empty n _ l) = small-opened n l
+    made-small k (more {h = k₀} s e m₀ ok) = small-noted k₀ record { station = s; event = e } (made-small k₀ m₀) ok
+
+-- the first record of eight bytes and more
+pub records-more : (xs : List ℕ) → 8 ≤ length xs
+    → records xs ≡ record-of (getD xs 0 0) (getD xs 1 0) (getD xs 2 0) (getD xs 3 0) (getD xs 4 0) (getD xs 5 0) (getD xs 6 0) (getD xs 7 0) ∷ records (drop 8 xs)
+records-more [] l = let z : ⊥ = omega arith in absurd z
+records-more (a ∷ []) l = let z : ⊥ = omega arith in absurd z
+records-more (a ∷ b ∷ []) l = let z : ⊥ = omega arith in absurd z
+records-more (a ∷ b ∷ c ∷ []) l = let z : ⊥ = omega arith in absurd z
+records-more (a ∷ b ∷ c ∷ d ∷ []) l = let z : ⊥ = omega arith in absurd z
+records-more (a ∷ b ∷ c ∷ d ∷ e ∷ []) l = let z : ⊥ = omega arith in absurd z
+records-more (a ∷ b ∷ c ∷ d ∷ e ∷ f ∷ []) l = let z : ⊥ = omega arith in absurd z
+records-more (a ∷ b ∷ c ∷ d ∷ e ∷ f ∷ g ∷ []) l = let z : ⊥ = omega arith in absurd z
+records-more (a ∷ b ∷ c ∷ d ∷ e ∷ f ∷ g ∷ i ∷ xs) l = refl
+
+-- one accepted record: what is left leads where it led before
+pub noting-more : (h : History) (n : ℕ) (r : Record) (rs : List Record) → note-answer h (r .station) (r .event) ≡ Ok tt
+    → noting h n (r ∷ rs) ≡ noting (after-note h (r .station) (r .event)) (n + 1) rs
+noting-more h n r rs ok =
+    ap (λ a. and-then (placed (n + 1) a) (noting (noted h (r .station) (r .event)) (n + 1) rs)) ok
+      ∙ ap (λ a. noting (cond (isOk a) (noted h (r .station) (r .event)) h) (n + 1) rs) (sym ok)
+
+pub total-more : (h : History) (s : ℕ) (e : Event) → note-answer h s e ≡ Ok tt → total (after-note h s e) ≡ total h + 1
+total-more h s e ok =
+    ap (λ a. total (cond (isOk a) (noted h s e) h)) ok
+      ∙ total-noted h s e (accepted h s e ok .on) ∙ sym (add-one (total h))

@@ -1,3 +1,4 @@
 pub mod Tables
 pub mod Held
 pub mod Accepts
+pub mod Loads

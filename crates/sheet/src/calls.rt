@@ -3,9 +3,9 @@ ghost use Prim.Native.Nat.{_≤_};
 ghost use lib.ListN.{length};
 ghost use mathlib.Core.Bool.{true};
 ghost use mathlib.Core.Path.{_≡_};
-ghost use Rattle.history.specs.Histories.{fresh, count, opened, noted};
+ghost use Rattle.history.specs.Histories.{fresh, count, opened, noted, total};
 ghost use Rattle.history.specs.Notes.{allowed-count, note-answer, after-note, open-answer, after-open, placed as at-place};
-ghost use Rattle.sheet.specs.Sheets.{history};
+ghost use Rattle.sheet.specs.Sheets.{history, Noted-all};
 ghost use Rattle.std.specs.Results.{isErr};
 ghost use Rattle.std.specs.declared.result.Result.the-variants.{Ok};
 use crate::table::EVENTS;
@@ -128,5 +128,23 @@ impl Sheet {
         ensures kept { λ r. ⌜ (isErr r ≡ true → now (self .exit) ≡ now (self .entry)) ⌝ }
     {
         placed(self.put(station, event), 0)
+    }
+
+    // Notes the records one after another.
+    fn note_all(&mut self, records: &[u8]) -> Result<(), Refused>
+        requires { ⌜ total (history (now self)) ≡ 0 ⌝ }
+        ensures { λ r. ⌜ Noted-all (history (now (self .entry))) (now (records .entry)) (history (now (self .exit))) r ⌝ }
+    {
+        let mut rest = records;
+        let mut number = 0;
+        while let [station, variable, a, b, c, d, awaited, count, tail @ ..] = rest {
+            number += 1;
+            let wait = Wait { station: *awaited, count: *count };
+            let value = i32::from_be_bytes([*a, *b, *c, *d]);
+            let event = Event { variable: *variable, value, wait };
+            placed(self.put(*station, event), number)?;
+            rest = tail;
+        }
+        Ok(())
     }
 }
