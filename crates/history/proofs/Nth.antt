@@ -34,6 +34,10 @@ nth-none [] (suc n) l = refl
 nth-none (x ∷ xs) (suc zero) l = let z : ⊥ = omega arith in absurd z
 nth-none (x ∷ xs) (suc (suc n)) l = nth-none xs (suc n) (omega arith)
 
+pub nth-nil : {A : Type 0} (n : ℕ) → nth {A = A} [] n ≡ None
+nth-nil zero = refl
+nth-nil (suc n) = refl
+
 pub nth-some : {A : Type 0} (xs : List A) (n : ℕ) (d : A) → 0 < n → n ≤ length xs → nth xs n ≡ Some (getD xs (n - 1) d)
 nth-some xs zero d p l = let z : ⊥ = omega arith in absurd z
 nth-some [] (suc n) d p l = let z : ⊥ = omega arith in absurd z

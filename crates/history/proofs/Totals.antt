@@ -2,7 +2,7 @@
 use Prim.Native.Nat.{ℕ, zero, suc, _+_, _*_, _<_, _≤_}
 use native.Mathlib.Nat.{mul-suc}
 use native.Mathlib.Omega.{arith}
-use lib.ListN.{length, getD, set, replicate}
+use lib.ListN.{length, take}
 use mathlib.Core.List.{List, [], _∷_, _++_}
 use mathlib.Core.Path.{_≡_, refl, ap, _∙_}
 use Rattle.std.proofs.shelf.Lists.{length-push}
@@ -22,3 +22,14 @@ pub total-bound : (h : History) (most : ℕ) → ((s : ℕ) → count h s ≤ mo
 total-bound [] most small = omega arith
 total-bound (es ∷ h) most small =
     omega (arith, small 0, total-bound h most (λ s. small (suc s)), mul-suc most (length h))
+
+pub total-take : (h : History) (i : ℕ) → total (take (suc i) h) ≡ total (take i h) + count h i
+total-take [] zero = refl
+total-take [] (suc i) = refl
+total-take (es ∷ h) zero = omega arith
+total-take (es ∷ h) (suc i) = omega (arith, total-take h i)
+
+pub total-take-le : (h : History) (i : ℕ) → total (take i h) ≤ total h
+total-take-le h zero = omega arith
+total-take-le [] (suc i) = omega arith
+total-take-le (es ∷ h) (suc i) = omega (arith, total-take-le h i)

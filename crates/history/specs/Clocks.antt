@@ -6,6 +6,12 @@ use mathlib.Core.List.{List, [], _∷_}
 use mathlib.Core.Path.{_≡_}
 use Rattle.history.specs.Histories.{History, There, awaits, count, wait}
 use Rattle.history.specs.Notes.{Made}
+use Rattle.history.specs.declared.Refusal.the-variants.{NoSuchEvent}
+use Rattle.history.specs.declared.Refused.{Refused}
+use Rattle.std.specs.declared.option.Option.{Option}
+use Rattle.std.specs.declared.option.Option.the-variants.{Some, None}
+use Rattle.std.specs.declared.result.Result.{Result}
+use Rattle.std.specs.declared.result.Result.the-variants.{Ok, Err}
 
 abbrev pub zeros : List ℕ
 zeros = replicate 8 0
@@ -32,6 +38,18 @@ pub data Clock (h : History) : ℕ → ℕ → List ℕ → Type 0 where
 pub record OneClock (h : History) (s n : ℕ) (v : List ℕ) : Type 0 where
   pub is : Clock h s n v
   pub only : (u : List ℕ) → Clock h s n u → u ≡ v
+
+-- the clock of an event that is there, or none
+abbrev pub Clocked : History → ℕ → ℕ → Option (List ℕ) → Type 0
+Clocked h s n None = There h s n → ⊥
+Clocked h s n (Some v) = There h s n × OneClock h s n v
+
+-- What the call reach answers and leaves in the place lent: the clock of the event; or it is refused, since there is no such
+-- event, and the place holds what it held.
+abbrev pub Reached : History → ℕ → ℕ → List ℕ → List ℕ → Result (Unit {0}) Refused → Type 0
+Reached h s n before after (Ok v) = There h s n × OneClock h s n after
+Reached h s n before after (Err why) =
+    (There h s n → ⊥) × (why ≡ record { refusal = NoSuchEvent; place = 0 }) × (after ≡ before)
 
 -- What holds of a clock in every history made by notes. An event is within v when its number is at most v's count at its
 -- station.

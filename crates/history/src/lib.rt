@@ -89,6 +89,15 @@ impl Refusal {
     }
 }
 
+// A refusal without a place of its own.
+pub impl From<Refusal> for Refused as RefusedFrom {
+    ghost converts = { λ why r. r ≡ record { refusal = why; place = 0 } };
+
+    fn from(refusal: Refusal) -> Refused {
+        Refused { refusal, place: 0 }
+    }
+}
+
 // Laws of the definitions, each with nothing to compute.
 
 // In a history made by notes each event has exactly one clock, of eight counts, which is closed under awaiting.

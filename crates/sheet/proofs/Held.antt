@@ -7,20 +7,17 @@ use mathlib.Core.Logic.{⊎-elim}
 use mathlib.Core.Path.{_≡_, refl, sym, ap, _∙_, subst}
 use Rattle.std.proofs.shelf.Lists.{length-take, length-map, length-push, getD-map, getD-take, getD-past, getD-replicate, getD-set-same, getD-set-other, map-set, map-push, take-replicate}
 use Rattle.std.proofs.shelf.Tests.{cases-lt, cases-eq}
+use Rattle.std.specs.Options.{Cases, mapped}
 use Rattle.std.specs.declared.option.Option.{Option}
 use Rattle.std.specs.declared.option.Option.the-variants.{Some, None}
-use Rattle.history.proofs.Clocks.{kept, clock-prop}
+use Rattle.history.proofs.Clocks.{kept, clock-prop, unique}
 use Rattle.history.proofs.Noted.{Accepted, count-same, event-new}
-use Rattle.history.proofs.Nth.{same-some, nth-push, nth-last, nth-there, nth-has}
-use Rattle.history.specs.Clocks.{Clock, missing, of-event}
-use Rattle.history.specs.Histories.{History, opened, events-of, count, noted, nth, wait, wait-of}
-use Rattle.history.specs.declared.Event.{Event}
-use Rattle.sheet.specs.Tables.{rows, row, blank, held, Kept, counts, next-clock}
+use Rattle.history.proofs.Nth.{same-some, nth-push, nth-last, nth-there, nth-has, nth-nil, nth-map}
+use Rattle.history.specs.Clocks.{Clock, OneClock, missing, of-event}
+use Rattle.history.specs.Histories.{History, There, opened, events-of, event, count, noted, nth, wait, wait-of}
+use Rattle.sheet.specs.Tables.{rows, row, blank, event-in, held, Kept, counts, next-clock}
 use Rattle.sheet.specs.declared.table.Slot.{Slot}
 use Rattle.sheet.specs.declared.table.Table.{Table}
-
-abbrev event-in : Slot → Event
-event-in x = x .event
 
 pub held-length : (n : ℕ) (t : Table) → n ≤ length (rows t) → length (held n t) ≡ n
 held-length n t l = omega (arith, length-map (take n (rows t)) (map event-in), length-take n (rows t))
@@ -74,6 +71,31 @@ kept-at n t all s (suc k) b l =
 
 pub kept-prop : (n : ℕ) (t : Table) → IsProp (Kept n t)
 kept-prop n t f g i s k x b q = clock-prop (f s k x b q) (g s k x b q) i
+
+-- what a slot says of the history's event
+module _ (n : ℕ) (t : Table) (s k : ℕ) where
+  pub past-event : n ≤ s → event (held n t) s k ≡ None
+  past-event l = ap (λ es. nth es k) (held-past n t s l) ∙ nth-nil k
+
+  pub past-there : n ≤ s → There (held n t) s k → ⊥
+  past-there l (some, there) = omega (arith, ap length (held-past n t s l))
+
+  module _ (on : s < n) (fits : n ≤ length (rows t)) where
+    pub slot-event : mapped event-in (nth (row t s) k) ≡ event (held n t) s k
+    slot-event = sym (nth-map event-in (row t s) k) ∙ ap (λ es. nth es k) (sym (held-events n t s on fits))
+
+    pub slot-clock : Kept n t → (o : Option Slot) → o ≡ nth (row t s) k
+        → Cases o (There (held n t) s k → ⊥) (λ x. There (held n t) s k × OneClock (held n t) s k (x .clock))
+    slot-clock all None p =
+        λ l. let x = nth-has (row t s) k (l .0) (omega (arith, l .1, held-count n t s on fits)) in
+          let z : _≡_ {A = ℕ} 0 1 = cc (p, x .1) in omega arith
+    slot-clock all (Some x) p =
+        ( (positive k p, omega (arith, nth-there (row t s) k x (sym p), held-count n t s on fits))
+        , record { is = all s k x on (sym p); only = λ u c. unique c (all s k x on (sym p)) })
+      where
+        positive : (i : ℕ) → Some x ≡ nth (row t s) i → 0 < i
+        positive zero q = let z : _≡_ {A = ℕ} 0 1 = cc in omega arith
+        positive (suc i) q = omega arith
 
 -- one slot more at the end of station s
 module _ (n : ℕ) (t t′ : Table) (s : ℕ) (x : Slot) (on : s < n) (fits : n ≤ length (rows t))

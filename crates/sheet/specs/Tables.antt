@@ -5,6 +5,7 @@ use mathlib.Core.List.{List, [], map}
 use mathlib.Core.Path.{_≡_}
 use Rattle.history.specs.Clocks.{Clock, larger, zeros}
 use Rattle.history.specs.Histories.{History, nth}
+use Rattle.history.specs.declared.Event.{Event}
 use Rattle.history.specs.declared.Wait.{Wait}
 use Rattle.sheet.specs.declared.table.Slot.{Slot}
 use Rattle.sheet.specs.declared.table.Station.{Station}
@@ -25,9 +26,12 @@ row t s = getD (rows t) s []
 abbrev pub blank : List (List Slot)
 blank = replicate 8 []
 
+abbrev pub event-in : Slot → Event
+event-in x = x .event
+
 -- the history that the first n rows hold
 abbrev pub held : ℕ → Table → History
-held n t = map (map (λ (x : Slot). x .event)) (take n (rows t))
+held n t = map (map event-in) (take n (rows t))
 
 -- the clock kept with each event is its clock
 abbrev pub Kept : ℕ → Table → Type 0

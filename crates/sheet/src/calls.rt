@@ -1,13 +1,15 @@
-// The calls of a sheet.
-ghost use Prim.Native.Nat.{_≤_};
-ghost use lib.ListN.{length};
+// The calls of a sheet: new, open, note, load and reach.
 ghost use mathlib.Core.Bool.{true};
 ghost use mathlib.Core.Path.{_≡_};
-ghost use Rattle.history.specs.Histories.{fresh, count, opened, noted, total};
+ghost use Rattle.history.specs.Histories.{fresh, opened, noted, total};
 ghost use Rattle.history.specs.Notes.{allowed-count, note-answer, after-note, open-answer, after-open, placed as at-place};
+ghost use Rattle.history.specs.Clocks.{Reached};
+ghost use Rattle.history.specs.RunFiles.{load-answer, loaded, told};
 ghost use Rattle.sheet.specs.Sheets.{history, Noted-all};
 ghost use Rattle.std.specs.Results.{isErr};
 ghost use Rattle.std.specs.declared.result.Result.the-variants.{Ok};
+use crate::run_file::STATIONS;
+use crate::run_file::header;
 use crate::table::EVENTS;
 use crate::table::Slot;
 use crate::table::Table;
@@ -15,10 +17,8 @@ use crate::types::Sheet;
 use history::Event;
 use history::Refusal;
 use history::Refused;
+use history::RefusedFrom;
 use history::Wait;
-
-// The most stations.
-const STATIONS: u8 = 8;
 
 // The largest variable.
 const VARIABLES: u8 = 31;
@@ -47,23 +47,6 @@ impl Sheet {
         ensures { λ r. ⌜ history r ≡ opened count ⌝ }
     {
         Sheet { stations: count, table: Table::new() }
-    }
-
-    // How many stations the sheet has.
-    pub fn stations(&self) -> u8
-        ensures { λ r. ⌜ r ≡ length (history (now (self .entry))) ⌝ }
-    {
-        self.stations
-    }
-
-    // How many events the station holds: none where it is not on the sheet.
-    pub fn events(&self, station: u8) -> u8
-        ensures { λ r. ⌜ r ≡ count (history (now (self .entry))) station ⌝ }
-    {
-        if station >= self.stations {
-            return 0;
-        }
-        self.table.events(station)
     }
 
     // The first reason that applies when the event is noted to the station.
@@ -115,7 +98,7 @@ impl Sheet {
         ensures kept { λ r. ⌜ (isErr r ≡ true → now (self .exit) ≡ now (self .entry)) ⌝ }
     {
         if count < 1 || count > STATIONS {
-            return placed(Err(Refusal::StationCount), 0);
+            Err(Refusal::StationCount)?;
         }
         *self = Sheet::empty(count);
         Ok(())
@@ -127,7 +110,8 @@ impl Sheet {
         ensures after { λ _. ⌜ history (now (self .exit)) ≡ after-note (history (now (self .entry))) station event ⌝ }
         ensures kept { λ r. ⌜ (isErr r ≡ true → now (self .exit) ≡ now (self .entry)) ⌝ }
     {
-        placed(self.put(station, event), 0)
+        self.put(station, event)?;
+        Ok(())
     }
 
     // Notes the records one after another.
@@ -145,6 +129,28 @@ impl Sheet {
             placed(self.put(*station, event), number)?;
             rest = tail;
         }
+        Ok(())
+    }
+
+    // Takes the records of a run file in turn as notes on a spare sheet of the file's station count, which becomes the sheet
+    // if none is refused.
+    pub fn load(&mut self, file: &[u8]) -> Result<(), Refused>
+        ensures answer { λ r. ⌜ r ≡ told (load-answer (now (file .entry))) ⌝ }
+        ensures after { λ _. ⌜ history (now (self .exit)) ≡ loaded (history (now (self .entry))) (load-answer (now (file .entry))) ⌝ }
+        ensures kept { λ r. ⌜ (isErr r ≡ true → now (self .exit) ≡ now (self .entry)) ⌝ }
+    {
+        let (stations, records) = header(file)?;
+        let mut spare = Sheet::empty(stations);
+        spare.note_all(records)?;
+        *self = spare;
+        Ok(())
+    }
+
+    // Writes the clock of the station's event of that number into the place lent.
+    pub fn reach(&self, station: u8, number: u8, counts: &mut [u8; 8]) -> Result<(), Refused>
+        ensures { λ r. ⌜ Reached (history (now (self .entry))) station number (now (counts .entry)) (now (counts .exit)) r ⌝ }
+    {
+        *counts = self.clock(station, number).ok_or(Refusal::NoSuchEvent)?;
         Ok(())
     }
 }
