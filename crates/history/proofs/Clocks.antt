@@ -50,14 +50,14 @@ same-parts : {h : History} {s n : ℕ} {v : List ℕ} (l l′ : suc n ≤ count 
     → Path (Clock h s (suc n) v) (of-event p w l cp cw q) (of-event p′ w′ l′ cp′ cw′ q′)
 same-parts {h} {s} {n} {v} l l′ p w cp cw one-p one-w p′ e w′ f =
     pathJ (λ (y : List ℕ) _. (cp′ : Clock h s n y) (cw′ : Clock h (wait h s (suc n) .station) (wait h s (suc n) .count) w′)
-        (q : v ≡ set (larger p w) s (suc n)) (q′ : v ≡ set (larger y w′) s (suc n))
-        → Path (Clock h s (suc n) v) (of-event p w l cp cw q) (of-event y w′ l′ cp′ cw′ q′))
-      (pathJ (λ (z : List ℕ) _. (cp′ : Clock h s n p) (cw′ : Clock h (wait h s (suc n) .station) (wait h s (suc n) .count) z)
-        (q : v ≡ set (larger p w) s (suc n)) (q′ : v ≡ set (larger p z) s (suc n))
-        → Path (Clock h s (suc n) v) (of-event p w l cp cw q) (of-event p z l′ cp′ cw′ q′))
-        (λ cp′ cw′ q q′ i. of-event p w (le-prop l l′ i) (one-p cp′ i) (one-w cw′ i) (List·isSet ℕ-set _ _ q q′ i))
-        f)
-      e
+    (q : v ≡ set (larger p w) s (suc n)) (q′ : v ≡ set (larger y w′) s (suc n))
+    → Path (Clock h s (suc n) v) (of-event p w l cp cw q) (of-event y w′ l′ cp′ cw′ q′))
+    (pathJ (λ (z : List ℕ) _. (cp′ : Clock h s n p) (cw′ : Clock h (wait h s (suc n) .station) (wait h s (suc n) .count) z)
+    (q : v ≡ set (larger p w) s (suc n)) (q′ : v ≡ set (larger p z) s (suc n))
+    → Path (Clock h s (suc n) v) (of-event p w l cp cw q) (of-event p z l′ cp′ cw′ q′))
+    (λ cp′ cw′ q q′ i. of-event p w (le-prop l l′ i) (one-p cp′ i) (one-w cw′ i) (List·isSet ℕ-set _ _ q q′ i))
+    f)
+    e
 
 pub clock-prop : {h : History} {s n : ℕ} {v : List ℕ} (c d : Clock h s n v) → c ≡ d
 clock-prop (missing p) (missing q) = ap missing (List·isSet ℕ-set _ _ p q)
@@ -72,4 +72,4 @@ module _ (h : History) (s : ℕ) (x : Event) (on : s < length h) where
   kept (missing z) = missing z
   kept (of-event {s = t} {n = n} p w l cp cw q) =
       of-event p w (le-trans l (count-grows h s x on t)) (kept cp)
-        (subst (λ y. Clock (noted h s x) (y .station) (y .count) w) (sym (wait-old t (suc n) l)) (kept cw)) q
+      (subst (λ y. Clock (noted h s x) (y .station) (y .count) w) (sym (wait-old t (suc n) l)) (kept cw)) q

@@ -41,22 +41,22 @@ clock-zero (of-event {n = n} _ _ _ _ _ _) p x = let q : ⊥ = omega arith in abs
 
 -- what holds of the clock of number 0
 missing-facts : {h : History} {s n : ℕ} {v : List ℕ} → Clock h s n v → n ≡ 0 → Facts h s n v
-missing-facts {h} {s} {n} {v} c z = record
-  { own = λ _. clock-zero c z s ∙ sym z
-  ; there = λ t. omega (arith, clock-zero c z t)
-  ; waits = λ x. subst (λ i. awaits (wait h s i) x ≤ getD v x 0) (sym z) (omega (arith, none-awaited x))
-  ; within = λ t k u d l x. omega (arith, clock-zero d (none t k l) x)
-  }
+missing-facts {h} {s} {n} {v} c z = record {
+  own = λ _. clock-zero c z s ∙ sym z;
+  there = λ t. omega (arith, clock-zero c z t);
+  waits = λ x. subst (λ i. awaits (wait h s i) x ≤ getD v x 0) (sym z) (omega (arith, none-awaited x));
+  within = λ t k u d l x. omega (arith, clock-zero d (none t k l) x);
+}
   where
     none : (t k : ℕ) → k ≤ getD v t 0 → k ≡ 0
     none t k l = omega (arith, clock-zero c z t)
 
 opened-sound : (n : ℕ) → n ≤ 8 → Sound (opened n)
-opened-sound n l = record
-  { short = rw length-replicate l
-  ; has = λ s k b. (zeros, subst (λ i. Clock (opened n) s i zeros) (sym (omega (arith, opened-count n s))) (missing refl))
-  ; facts = λ s k v c. missing-facts c (let b : k ≤ count (opened n) s = clock-there c in omega (arith, opened-count n s))
-  }
+opened-sound n l = record {
+  short = rw length-replicate l;
+  has = λ s k b. (zeros, subst (λ i. Clock (opened n) s i zeros) (sym (omega (arith, opened-count n s))) (missing refl));
+  facts = λ s k v c. missing-facts c (let b : k ≤ count (opened n) s = clock-there c in omega (arith, opened-count n s));
+}
 
 -- one note more
 module _ (h : History) (s : ℕ) (e : Event) (ok : Accepted h s e) (sound : Sound h) where
@@ -85,7 +85,7 @@ module _ (h : History) (s : ℕ) (e : Event) (ok : Accepted h s e) (sound : Soun
   unfolding newest merged
   newest-clock =
       of-event (previous .0) (awaited .0) (omega (arith, count-same h s e (ok .on))) (kept h s e (ok .on) (previous .1))
-        (subst (λ w. Clock (noted h s e) (w .station) (w .count) (awaited .0)) (sym wait-new) (kept h s e (ok .on) (awaited .1))) refl
+      (subst (λ w. Clock (noted h s e) (w .station) (w .count) (awaited .0)) (sym wait-new) (kept h s e (ok .on) (awaited .1))) refl
 
   previous-facts : Facts h s (count h s) (previous .0)
   previous-facts = sound .facts s (count h s) (previous .0) (previous .1)
@@ -100,7 +100,7 @@ module _ (h : History) (s : ℕ) (e : Event) (ok : Accepted h s e) (sound : Soun
   unfolding newest merged
   newest-same =
       getD-set-same merged s (suc (count h s)) 0
-        (omega (arith, length-larger (previous .0) (awaited .0) same-length, eight (previous .1), ok .on, sound .short))
+      (omega (arith, length-larger (previous .0) (awaited .0) same-length, eight (previous .1), ok .on, sound .short))
 
   newest-other : (t : ℕ) → (t ≡ s → ⊥) → getD newest t 0 ≡ max (getD (previous .0) t 0) (getD (awaited .0) t 0)
   unfolding newest merged
@@ -122,8 +122,8 @@ module _ (h : History) (s : ℕ) (e : Event) (ok : Accepted h s e) (sound : Soun
   newest-waits : (x : ℕ) → awaits (e .wait) x ≤ getD newest x 0
   newest-waits x =
       cond-both (eqb (e .wait .station) x) (e .wait .count) 0 (λ n. n ≤ getD newest x 0)
-        (λ p. subst (λ y. e .wait .count ≤ getD newest y 0) (eqb-true (e .wait .station) x p) at-station)
-        (λ _. omega arith)
+      (λ p. subst (λ y. e .wait .count ≤ getD newest y 0) (eqb-true (e .wait .station) x p) at-station)
+      (λ _. omega arith)
     where
       at-station : e .wait .count ≤ getD newest (e .wait .station) 0
       at-station =
@@ -152,11 +152,11 @@ module _ (h : History) (s : ℕ) (e : Event) (ok : Accepted h s e) (sound : Soun
       at-own : t ≡ s → getD u x 0 ≤ getD newest x 0
       at-own p = ⊎-elim
           (λ (b : k < suc (count h s)).
-            let m : getD (previous .0) t 0 ≡ count h s = ap (λ i. getD (previous .0) i 0) p ∙ previous-facts .own (omega (arith, ok .on, sound .short)) in
-            by-previous (omega arith))
+          let m : getD (previous .0) t 0 ≡ count h s = ap (λ i. getD (previous .0) i 0) p ∙ previous-facts .own (omega (arith, ok .on, sound .short)) in
+          by-previous (omega arith))
           (λ b.
-            let m : getD newest t 0 ≡ suc (count h s) = ap (λ i. getD newest i 0) p ∙ newest-same in
-            itself p (omega arith))
+          let m : getD newest t 0 ≡ suc (count h s) = ap (λ i. getD newest i 0) p ∙ newest-same in
+          itself p (omega arith))
           (cases-lt k (suc (count h s)))
 
       at-other : (t ≡ s → ⊥) → getD u x 0 ≤ getD newest x 0
@@ -166,29 +166,29 @@ module _ (h : History) (s : ℕ) (e : Event) (ok : Accepted h s e) (sound : Soun
           (cases-lt (getD (previous .0) t 0) k)
 
   newest-facts : Facts (noted h s e) s (suc (count h s)) newest
-  newest-facts = record
-    { own = λ _. newest-same
-    ; there = newest-there
-    ; waits = λ x. subst (λ w. awaits w x ≤ getD newest x 0) (sym wait-new) (newest-waits x)
-    ; within = newest-within
-    }
+  newest-facts = record {
+    own = λ _. newest-same;
+    there = newest-there;
+    waits = λ x. subst (λ w. awaits w x ≤ getD newest x 0) (sym wait-new) (newest-waits x);
+    within = newest-within;
+  }
 
   old-facts : (t n : ℕ) (v : List ℕ) → Clock h t n v → Facts (noted h s e) t n v
   old-facts t n v c =
       let f = sound .facts t n v c in
-      record
-        { own = f .own
-        ; there = λ x. omega (arith, f .there x, count-grows h s e (ok .on) x)
-        ; waits = λ x. subst (λ w. awaits w x ≤ getD v x 0) (sym (ap wait-of (event-old h s e (ok .on) t n (clock-there c)))) (f .waits x)
-        ; within = λ x k u d l. f .within x k u (old (omega (arith, f .there x)) d) l
-        }
+      record {
+        own = f .own;
+        there = λ x. omega (arith, f .there x, count-grows h s e (ok .on) x);
+        waits = λ x. subst (λ w. awaits w x ≤ getD v x 0) (sym (ap wait-of (event-old h s e (ok .on) t n (clock-there c)))) (f .waits x);
+        within = λ x k u d l. f .within x k u (old (omega (arith, f .there x)) d) l;
+      }
 
   noted-sound : Sound (noted h s e)
-  noted-sound = record
-    { short = rw length-set (sound .short)
-    ; has = λ t n l. ⊎-elim (λ (b : count h t < n). has-new t n l b) (λ b. has-old t n b) (cases-lt (count h t) n)
-    ; facts = λ t n v c. ⊎-elim (λ (b : count h t < n). facts-new t n v c b) (λ b. old-facts t n v (old b c)) (cases-lt (count h t) n)
-    }
+  noted-sound = record {
+    short = rw length-set (sound .short);
+    has = λ t n l. ⊎-elim (λ (b : count h t < n). has-new t n l b) (λ b. has-old t n b) (cases-lt (count h t) n);
+    facts = λ t n v c. ⊎-elim (λ (b : count h t < n). facts-new t n v c b) (λ b. old-facts t n v (old b c)) (cases-lt (count h t) n);
+  }
     where
       has-old : (t n : ℕ) → n ≤ count h t → (v : List ℕ) × Clock (noted h s e) t n v
       has-old t n b = let o = sound .has t n b in (o .0, kept h s e (ok .on) (o .1))
@@ -203,7 +203,7 @@ module _ (h : History) (s : ℕ) (e : Event) (ok : Accepted h s e) (sound : Soun
           let p = not-old h s e (ok .on) t n (clock-there c) b in
           let n′ : Clock (noted h s e) t n newest = subst₂ (λ i j. Clock (noted h s e) i j newest) (sym (p .0)) (sym (p .1)) newest-clock in
           subst (λ w. Facts (noted h s e) t n w) (unique n′ c)
-            (subst₂ (λ i j. Facts (noted h s e) i j newest) (sym (p .0)) (sym (p .1)) newest-facts)
+          (subst₂ (λ i j. Facts (noted h s e) i j newest) (sym (p .0)) (sym (p .1)) newest-facts)
 
 made-sound : (h : History) → Made h → Sound h
 made-sound h (empty n _ l) = opened-sound n l
@@ -213,13 +213,16 @@ pub clocks-stand : Clocks-stand
 clocks-stand h m s n l =
     let k = made-sound h m in
     let c = k .has s n (l .1) in
-    let f = k .facts s n (c .0) (c .1) in
-    (c .0, record { is = c .1; only = λ u d. unique d (c .1) }, record
-      { eight = eight (c .1)
-      ; own = f .own (omega (arith, on-sheet h s n l, k .short))
-      ; there = f .there
-      ; closed = λ t i b x.
-          let d = k .has t i (le-trans b (f .there t)) in
-          omega (arith, k .facts t i (d .0) (d .1) .waits x, f .within t i (d .0) (d .1) b x)
-      ; within = f .within
-      })
+    let f = k .facts s n (c .0) (c .1) in (
+      c .0,
+      record { is = c .1; only = λ u d. unique d (c .1) },
+      record {
+        eight = eight (c .1);
+        own = f .own (omega (arith, on-sheet h s n l, k .short));
+        there = f .there;
+        closed = λ t i b x.
+            let d = k .has t i (le-trans b (f .there t)) in
+            omega (arith, k .facts t i (d .0) (d .1) .waits x, f .within t i (d .0) (d .1) b x);
+        within = f .within;
+      },
+    )

@@ -30,29 +30,35 @@ turn-more : (h : History) (n : ℕ) (r : Record) (rs : List Record) (a : Result 
     → note-answer h (r .station) (r .event) ≡ Ok tt
     → Turn (noted h (r .station) (r .event)) (n + 1) rs a → Turn h n (r ∷ rs) a
 turn-more h n r rs (Ok k) ok t = next ok t
-turn-more h n r rs (Err why) ok (p, e, s) =
-    (p + 1, omega arith, record
-      { before = r ∷ s .before
-      ; at = s .at
-      ; after = s .after
-      ; there = s .there
-      ; split = ap (λ x. r ∷ x) (s .split)
-      ; accepted = next ok (s .accepted)
-      ; refusal = s .refusal
-      ; numbered = omega (arith, s .numbered)
-      })
+turn-more h n r rs (Err why) ok (p, e, s) = (
+  p + 1,
+  omega arith,
+  record {
+    before = r ∷ s .before;
+    at = s .at;
+    after = s .after;
+    there = s .there;
+    split = ap (λ x. r ∷ x) (s .split);
+    accepted = next ok (s .accepted);
+    refusal = s .refusal;
+    numbered = omega (arith, s .numbered);
+  },
+)
 
 turns : (h : History) (n : ℕ) (rs : List Record) → Turn h n rs (noting h n rs)
 turns h n [] = none
 turns h n (r ∷ rs) = by-answer (note-answer h (r .station) (r .event)) refl (turns (noted h (r .station) (r .event)) (n + 1) rs)
   where
     by-answer : (a : Answer) → note-answer h (r .station) (r .event) ≡ a
-      → Turn (noted h (r .station) (r .event)) (n + 1) rs (noting (noted h (r .station) (r .event)) (n + 1) rs)
-      → Turn h n (r ∷ rs) (and-then (placed (n + 1) a) (noting (noted h (r .station) (r .event)) (n + 1) rs))
+        → Turn (noted h (r .station) (r .event)) (n + 1) rs (noting (noted h (r .station) (r .event)) (n + 1) rs)
+        → Turn h n (r ∷ rs) (and-then (placed (n + 1) a) (noting (noted h (r .station) (r .event)) (n + 1) rs))
     by-answer (Ok v) p t = turn-more h n r rs _ p t
-    by-answer (Err why) p t =
-        (1, refl, record
-          { before = []; at = r; after = rs; there = h; split = refl; accepted = none; refusal = p; numbered = refl })
+    by-answer (Err why) p t = (
+      1,
+      refl,
+      record
+          { before = []; at = r; after = rs; there = h; split = refl; accepted = none; refusal = p; numbered = refl },
+    )
 
 pub records-in-turn : Records-in-turn
 records-in-turn h rs = from-start (noting h 0 rs) (turns h 0 rs)
@@ -72,13 +78,13 @@ small-opened n l = record { stations = rw length-replicate l; events = λ s. ome
 small-noted : (h : History) (r : Record) → Small h → note-answer h (r .station) (r .event) ≡ Ok tt → Small (noted h (r .station) (r .event))
 small-noted h r small ok =
     let a = accepted h (r .station) (r .event) ok in
-    record
-      { stations = rw length-set (small .stations)
-      ; events = λ s. ⊎-elim
+    record {
+      stations = rw length-set (small .stations);
+      events = λ s. ⊎-elim
           (λ (p : s ≡ r .station). rw p (omega (arith, count-same h (r .station) (r .event) (a .on), a .room)))
           (λ ne. omega (arith, count-other h (r .station) (r .event) (a .on) s ne, small .events s))
-          (cases-eq s (r .station))
-      }
+          (cases-eq s (r .station));
+    }
 
 Low : Result History Refused → Type 0
 Low a = (why : Refused) → a ≡ Err why → why .place ≤ 513
@@ -95,15 +101,15 @@ noting-low h n [] small t = λ why p. let z : _≡_ {A = ℕ} 0 1 = cc in omega 
 noting-low h n (r ∷ rs) small t =
     let b : total h ≤ 64 * length h = total-bound h 64 (small .events) in
     low-then (n + 1) (note-answer h (r .station) (r .event)) _ (omega (arith, small .stations)) (λ ok.
-      noting-low (noted h (r .station) (r .event)) (n + 1) rs (small-noted h r small ok)
-        (omega (arith, total-noted h (r .station) (r .event) (accepted h (r .station) (r .event) ok .on))))
+    noting-low (noted h (r .station) (r .event)) (n + 1) rs (small-noted h r small ok)
+    (omega (arith, total-noted h (r .station) (r .event) (accepted h (r .station) (r .event) ok .on))))
 
 pub load-places : Load-places
 unfolding Low
 load-places file =
     low-then 0 (file-answer file) _ (omega arith) (λ ok.
-      noting-low (opened (getD file 5 0)) 0 (records (drop 6 file))
-        (small-opened (getD file 5 0) (few ok)) (total-opened (getD file 5 0)))
+    noting-low (opened (getD file 5 0)) 0 (records (drop 6 file))
+    (small-opened (getD file 5 0) (few ok)) (total-opened (getD file 5 0)))
   where
     few : file-answer file ≡ Ok tt → getD file 5 0 ≤ 8
     few ok = grind (arith, tells)
@@ -136,9 +142,9 @@ pub noting-more : (h : History) (n : ℕ) (r : Record) (rs : List Record) → no
     → noting h n (r ∷ rs) ≡ noting (after-note h (r .station) (r .event)) (n + 1) rs
 noting-more h n r rs ok =
     ap (λ a. and-then (placed (n + 1) a) (noting (noted h (r .station) (r .event)) (n + 1) rs)) ok
-      ∙ ap (λ a. noting (cond (isOk a) (noted h (r .station) (r .event)) h) (n + 1) rs) (sym ok)
+    ∙ ap (λ a. noting (cond (isOk a) (noted h (r .station) (r .event)) h) (n + 1) rs) (sym ok)
 
 pub total-more : (h : History) (s : ℕ) (e : Event) → note-answer h s e ≡ Ok tt → total (after-note h s e) ≡ total h + 1
 total-more h s e ok =
     ap (λ a. total (cond (isOk a) (noted h s e) h)) ok
-      ∙ total-noted h s e (accepted h s e ok .on) ∙ sym (add-one (total h))
+    ∙ total-noted h s e (accepted h s e ok .on) ∙ sym (add-one (total h))

@@ -28,11 +28,11 @@ larger (a ∷ u) (b ∷ v) = max a b ∷ larger u v
 pub data Clock (h : History) : ℕ → ℕ → List ℕ → Type 0 where
   missing : {s : ℕ} {v : List ℕ} → v ≡ zeros → Clock h s zero v
   of-event : {s n : ℕ} {v : List ℕ} (previous awaited : List ℕ)
-    → suc n ≤ count h s
-    → Clock h s n previous
-    → Clock h (wait h s (suc n) .station) (wait h s (suc n) .count) awaited
-    → v ≡ set (larger previous awaited) s (suc n)
-    → Clock h s (suc n) v
+      → suc n ≤ count h s
+      → Clock h s n previous
+      → Clock h (wait h s (suc n) .station) (wait h s (suc n) .count) awaited
+      → v ≡ set (larger previous awaited) s (suc n)
+      → Clock h s (suc n) v
 
 -- v is the clock of the event, and the only one
 pub record OneClock (h : History) (s n : ℕ) (v : List ℕ) : Type 0 where

@@ -93,9 +93,9 @@ Load-places = (file : List ℕ) (why : Refused) → load-answer file ≡ Err why
 pub data Notes : History → List Record → History → Type 0 where
   none : {h : History} → Notes h [] h
   next : {h k : History} {r : Record} {rs : List Record}
-    → note-answer h (r .station) (r .event) ≡ Ok tt
-    → Notes (noted h (r .station) (r .event)) rs k
-    → Notes h (r ∷ rs) k
+      → note-answer h (r .station) (r .event) ≡ Ok tt
+      → Notes (noted h (r .station) (r .event)) rs k
+      → Notes h (r ∷ rs) k
 
 -- the record at which a row of notes stops: those before it are accepted, and it is refused
 pub record Stops (h : History) (rs : List Record) (place : ℕ) (why : Refusal) : Type 0 where

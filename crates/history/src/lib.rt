@@ -103,17 +103,14 @@ pub impl From<Refusal> for Refused as RefusedFrom {
 // In a history made by notes each event has exactly one clock, of eight counts, which is closed under awaiting.
 pub fn clocks_stand()
     ensures { λ _. ⌜ Clocks-stand ⌝ }
-{
-}
+{}
 
 // A load notes its records one after another, and answers the first that is refused, with its number.
 pub fn records_in_turn()
     ensures { λ _. ⌜ Records-in-turn ⌝ }
-{
-}
+{}
 
 // The place of a load's refusal is at most 513.
 pub fn load_places()
     ensures { λ _. ⌜ Load-places ⌝ }
-{
-}
+{}

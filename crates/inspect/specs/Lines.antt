@@ -26,7 +26,7 @@ at v k = decimal (getD v k 0)
 abbrev pub clock-words : List ℕ → List ℕ
 clock-words v =
     (at v 0 ++ (codes " " ++ (at v 1 ++ (codes " " ++ (at v 2 ++ (codes " " ++ at v 3))))))
-      ++ (codes " " ++ (at v 4 ++ (codes " " ++ (at v 5 ++ (codes " " ++ (at v 6 ++ (codes " " ++ at v 7)))))))
+    ++ (codes " " ++ (at v 4 ++ (codes " " ++ (at v 5 ++ (codes " " ++ (at v 6 ++ (codes " " ++ at v 7)))))))
 
 -- variable 1 = -5
 abbrev pub setting-words : Event → List ℕ
@@ -36,7 +36,7 @@ setting-words e = codes "variable " ++ (decimal (e .variable) ++ (codes " = " ++
 abbrev pub event-line : ℕ → ℕ → Event → List ℕ → List ℕ
 event-line s n e v =
     codes "station " ++ (decimal s ++ (codes " event " ++ (decimal n ++ (codes ": " ++ (setting-words e
-      ++ (codes ", waits for " ++ (wait-words (e .wait) ++ (codes ", reach " ++ clock-words v))))))))
+    ++ (codes ", waits for " ++ (wait-words (e .wait) ++ (codes ", reach " ++ clock-words v))))))))
 
 -- refused 5 at 2
 abbrev pub refusal-line : Refused → List ℕ

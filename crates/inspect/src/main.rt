@@ -27,7 +27,10 @@ fn show(rt: &LibcRuntime, sheet: &Sheet) -> Result<(), AnyError> {
     rt.println(text::heading(heap, sheet)?)?;
     for station in 0..sheet.stations() {
         for number in 1..=sheet.events(station) {
-            if let (Some(event), Some(clock)) = (sheet.event(station, number), sheet.clock(station, number)) {
+            if let (Some(event), Some(clock)) = (
+                sheet.event(station, number),
+                sheet.clock(station, number),
+            ) {
                 rt.println(text::event(heap, station, number, event, clock)?)?;
             }
         }

@@ -47,18 +47,31 @@ fn counts(heap: Global, clock: [u8; 8]) -> Result<String, AllocError>
 fn setting(heap: Global, event: Event) -> Result<String, AllocError>
     ensures { λ r. ⌜ made r (λ s. string-bytes s ≡ setting-words event) ⌝ }
 {
-    let Event { variable, value, wait: _ } = event;
+    let Event {
+        variable,
+        value,
+        wait: _,
+    } = event;
     format!(heap, "variable {variable} = {value}")
 }
 
 // One event with its clock.
-pub fn event(heap: Global, station: u8, number: u8, event: Event, clock: [u8; 8]) -> Result<String, AllocError>
+pub fn event(
+    heap: Global,
+    station: u8,
+    number: u8,
+    event: Event,
+    clock: [u8; 8],
+) -> Result<String, AllocError>
     ensures { λ r. ⌜ made r (λ s. string-bytes s ≡ event-line station number event clock) ⌝ }
 {
     let set = setting(heap, event)?;
     let awaited = wait(heap, event.wait)?;
     let reach = counts(heap, clock)?;
-    format!(heap, "station {station} event {number}: {set}, waits for {awaited}, reach {reach}")
+    format!(
+        heap,
+        "station {station} event {number}: {set}, waits for {awaited}, reach {reach}"
+    )
 }
 
 // Why the file is turned away.

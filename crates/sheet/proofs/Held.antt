@@ -29,7 +29,7 @@ held-past n t s l =
 pub held-events : (n : ℕ) (t : Table) (s : ℕ) → s < n → n ≤ length (rows t) → events-of (held n t) s ≡ map event-in (row t s)
 held-events n t s b l =
     getD-map (map event-in) (take n (rows t)) s [] [] (omega (arith, length-take n (rows t)))
-      ∙ ap (map event-in) (getD-take n (rows t) s [] b)
+    ∙ ap (map event-in) (getD-take n (rows t) s [] b)
 
 pub held-count : (n : ℕ) (t : Table) (s : ℕ) → s < n → n ≤ length (rows t) → count (held n t) s ≡ length (row t s)
 held-count n t s b l = ap length (held-events n t s b l) ∙ length-map (row t s) event-in
@@ -88,10 +88,11 @@ module _ (n : ℕ) (t : Table) (s k : ℕ) where
         → Cases o (There (held n t) s k → ⊥) (λ x. There (held n t) s k × OneClock (held n t) s k (x .clock))
     slot-clock all None p =
         λ l. let x = nth-has (row t s) k (l .0) (omega (arith, l .1, held-count n t s on fits)) in
-          let z : _≡_ {A = ℕ} 0 1 = cc (p, x .1) in omega arith
-    slot-clock all (Some x) p =
-        ( (positive k p, omega (arith, nth-there (row t s) k x (sym p), held-count n t s on fits))
-        , record { is = all s k x on (sym p); only = λ u c. unique c (all s k x on (sym p)) })
+        let z : _≡_ {A = ℕ} 0 1 = cc (p, x .1) in omega arith
+    slot-clock all (Some x) p = (
+      (positive k p, omega (arith, nth-there (row t s) k x (sym p), held-count n t s on fits)),
+      record { is = all s k x on (sym p); only = λ u c. unique c (all s k x on (sym p)) },
+    )
       where
         positive : (i : ℕ) → Some x ≡ nth (row t s) i → 0 < i
         positive zero q = let z : _≡_ {A = ℕ} 0 1 = cc in omega arith
@@ -103,10 +104,10 @@ module _ (n : ℕ) (t t′ : Table) (s : ℕ) (x : Slot) (on : s < n) (fits : n 
   pub held-push : held n t′ ≡ noted (held n t) s (x .event)
   held-push =
       ap (λ xs. map (map event-in) (take n xs)) put
-        ∙ ap (map (map event-in)) (take-set n (rows t) s (row t s ++ x ∷ []))
-        ∙ map-set (map event-in) (take n (rows t)) s (row t s ++ x ∷ [])
-        ∙ ap (set (held n t) s)
-            (map-push event-in (row t s) x ∙ ap (λ es. es ++ x .event ∷ []) (sym (held-events n t s on fits)))
+      ∙ ap (map (map event-in)) (take-set n (rows t) s (row t s ++ x ∷ []))
+      ∙ map-set (map event-in) (take n (rows t)) s (row t s ++ x ∷ [])
+      ∙ ap (set (held n t) s)
+      (map-push event-in (row t s) x ∙ ap (λ es. es ++ x .event ∷ []) (sym (held-events n t s on fits)))
 
   row-same : row t′ s ≡ row t s ++ x ∷ []
   row-same = ap (λ xs. getD xs s []) put ∙ getD-set-same (rows t) s (row t s ++ x ∷ []) [] (omega arith)
@@ -120,21 +121,21 @@ module _ (n : ℕ) (t t′ : Table) (s : ℕ) (x : Slot) (on : s < n) (fits : n 
     wait-new : wait (noted (held n t) s (x .event)) s (suc (length (row t s))) ≡ x .event .wait
     wait-new =
         ap (λ k. wait (noted (held n t) s (x .event)) s (suc k)) (sym (held-count n t s on fits))
-          ∙ ap wait-of (event-new (held n t) s (x .event) (ok .on))
+        ∙ ap wait-of (event-new (held n t) s (x .event) (ok .on))
 
     newest : Clock (noted (held n t) s (x .event)) s (suc (length (row t s))) (x .clock)
     newest =
         let awaited-on : x .event .wait .station < n = omega (arith, ok .awaited-on, held-length n t fits) in
         of-event _ _
-          (omega (arith, count-same (held n t) s (x .event) (ok .on), held-count n t s on fits))
-          (kept (held n t) s (x .event) (ok .on) (kept-at n t all s (length (row t s)) on (omega arith)))
-          (subst
-            (λ w. Clock (noted (held n t) s (x .event)) (w .station) (w .count) (counts (nth (row t (x .event .wait .station)) (x .event .wait .count))))
-            (sym wait-new)
-            (kept (held n t) s (x .event) (ok .on)
-              (kept-at n t all (x .event .wait .station) (x .event .wait .count) awaited-on
-                (omega (arith, ok .awaited-there, held-count n t (x .event .wait .station) awaited-on fits)))))
-          new
+        (omega (arith, count-same (held n t) s (x .event) (ok .on), held-count n t s on fits))
+        (kept (held n t) s (x .event) (ok .on) (kept-at n t all s (length (row t s)) on (omega arith)))
+        (subst
+        (λ w. Clock (noted (held n t) s (x .event)) (w .station) (w .count) (counts (nth (row t (x .event .wait .station)) (x .event .wait .count))))
+        (sym wait-new)
+        (kept (held n t) s (x .event) (ok .on)
+        (kept-at n t all (x .event .wait .station) (x .event .wait .count) awaited-on
+        (omega (arith, ok .awaited-there, held-count n t (x .event .wait .station) awaited-on fits)))))
+        new
 
     kept-slot : (r k : ℕ) (y : Slot) → r < n → nth (row t′ r) k ≡ Some y → Clock (noted (held n t) s (x .event)) r k (y .clock)
     kept-slot r k y b q = ⊎-elim at-station at-other (cases-eq r s)
@@ -159,7 +160,7 @@ module _ (n : ℕ) (t t′ : Table) (s : ℕ) (x : Slot) (on : s < n) (fits : n 
                 let e : k ≡ suc (length (row t s)) = omega (arith, nth-there (row t s ++ x ∷ []) k y found, length-push (row t s) x) in
                 let same : x ≡ y = same-some x y (sym (nth-last (row t s) x) ∙ ap (nth (row t s ++ x ∷ [])) (sym e) ∙ found) in
                 subst (λ i. Clock (noted (held n t) s (x .event)) s i (y .clock)) (sym e)
-                  (subst (λ z. Clock (noted (held n t) s (x .event)) s (suc (length (row t s))) (z .clock)) same newest)
+                (subst (λ z. Clock (noted (held n t) s (x .event)) s (suc (length (row t s))) (z .clock)) same newest)
 
     pub kept-push : Kept n t′
     kept-push r k y b q = subst (λ h. Clock h r k (y .clock)) (sym held-push) (kept-slot r k y b q)

@@ -38,12 +38,13 @@ pub record-noted : (h h′ : History) (n : ℕ) (xs : List ℕ) (value : ℤ) (a
     → r ≡ placed (n + 1) a
     → r ≡ Ok tt
     → (noting h n (records xs) ≡ noting h′ (n + 1) (records (drop 8 xs))) × (total h′ ≡ total h + 1)
-record-noted h h′ n xs value a r l v answer after told ok =
-    ( ap (noting h n) (records-more xs l)
-        ∙ noting-more h n _ (records (drop 8 xs)) (subst (λ z. note-answer h (getD xs 0 0) (front xs z) ≡ Ok tt) v accepted)
-        ∙ ap (λ z. noting (after-note h (getD xs 0 0) (front xs z)) (n + 1) (records (drop 8 xs))) (sym v)
-        ∙ ap (λ k. noting k (n + 1) (records (drop 8 xs))) (sym after)
-    , ap total after ∙ total-more h (getD xs 0 0) (front xs value) accepted)
+record-noted h h′ n xs value a r l v answer after told ok = (
+  ap (noting h n) (records-more xs l)
+      ∙ noting-more h n _ (records (drop 8 xs)) (subst (λ z. note-answer h (getD xs 0 0) (front xs z) ≡ Ok tt) v accepted)
+      ∙ ap (λ z. noting (after-note h (getD xs 0 0) (front xs z)) (n + 1) (records (drop 8 xs))) (sym v)
+      ∙ ap (λ k. noting k (n + 1) (records (drop 8 xs))) (sym after),
+  ap total after ∙ total-more h (getD xs 0 0) (front xs value) accepted,
+)
   where
     accepted : note-answer h (getD xs 0 0) (front xs value) ≡ Ok tt
     accepted = sym answer ∙ placed-ok (n + 1) a (sym told ∙ ok)

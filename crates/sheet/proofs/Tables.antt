@@ -7,7 +7,7 @@ use mathlib.Core.Logic.{⊎-elim}
 use mathlib.Core.Path.{_≡_, refl, sym, ap, _∙_}
 use Rattle.std.proofs.shelf.Lists.{take-all}
 use Rattle.std.proofs.shelf.Tests.{cases-lt}
-use Rattle.sheet.specs.Tables.{slots, row}
+use Rattle.sheet.specs.Tables.{filled, row}
 use Rattle.sheet.specs.declared.table.Station.{Station}
 use Rattle.sheet.specs.declared.table.Table.{Table}
 
@@ -23,5 +23,5 @@ getD-map-default f (x ∷ xs) zero d = refl
 getD-map-default f (x ∷ xs) (suc i) d = getD-map-default f xs i d
 
 -- the row of a station, as an index into the table reads it
-pub row-is : (t : Table) (s : ℕ) → row t s ≡ slots (getD (t .stations) s record { slots = []; len = 0 })
-row-is t s = getD-map-default slots (t .stations) s record { slots = []; len = 0 }
+pub row-is : (t : Table) (s : ℕ) → row t s ≡ filled (getD (t .stations) s record { slots = []; len = 0 })
+row-is t s = getD-map-default filled (t .stations) s record { slots = []; len = 0 }

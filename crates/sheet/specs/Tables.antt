@@ -14,11 +14,11 @@ use Rattle.std.specs.declared.option.Option.{Option}
 use Rattle.std.specs.declared.option.Option.the-variants.{Some, None}
 
 -- the slots of a station that hold its events
-abbrev pub slots : Station → List Slot
-slots s = take (s .len) (s .slots)
+abbrev pub filled : Station → List Slot
+filled s = take (s .len) (s .slots)
 
 abbrev pub rows : Table → List (List Slot)
-rows t = map slots (t .stations)
+rows t = map filled (t .stations)
 
 abbrev pub row : Table → ℕ → List Slot
 row t s = getD (rows t) s []

@@ -46,14 +46,20 @@ impl Sheet {
         requires { ⌜ allowed-count count ≡ true ⌝ }
         ensures { λ r. ⌜ history r ≡ opened count ⌝ }
     {
-        Sheet { stations: count, table: Table::new() }
+        Sheet {
+            stations: count,
+            table: Table::new(),
+        }
     }
 
     // The first reason that applies when the event is noted to the station.
     fn accepts(&self, station: u8, event: Event) -> Result<(), Refusal>
         ensures { λ r. ⌜ r ≡ note-answer (history (now (self .entry))) station event ⌝ }
     {
-        let Wait { station: awaited, count } = event.wait;
+        let Wait {
+            station: awaited,
+            count,
+        } = event.wait;
         if station >= self.stations() {
             return Err(Refusal::NoSuchStation);
         }
@@ -81,6 +87,7 @@ impl Sheet {
         self.table.push(station, Slot { event, clock });
     }
 
+    // Notes the event, or says why not.
     fn put(&mut self, station: u8, event: Event) -> Result<(), Refusal>
         ensures answer { λ r. ⌜ r ≡ note-answer (history (now (self .entry))) station event ⌝ }
         ensures after { λ _. ⌜ history (now (self .exit)) ≡ after-note (history (now (self .entry))) station event ⌝ }
@@ -123,9 +130,16 @@ impl Sheet {
         let mut number = 0;
         while let [station, variable, a, b, c, d, awaited, count, tail @ ..] = rest {
             number += 1;
-            let wait = Wait { station: *awaited, count: *count };
+            let wait = Wait {
+                station: *awaited,
+                count: *count,
+            };
             let value = i32::from_be_bytes([*a, *b, *c, *d]);
-            let event = Event { variable: *variable, value, wait };
+            let event = Event {
+                variable: *variable,
+                value,
+                wait,
+            };
             placed(self.put(*station, event), number)?;
             rest = tail;
         }

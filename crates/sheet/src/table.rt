@@ -4,7 +4,7 @@ ghost use lib.ListN.{length, set};
 ghost use mathlib.Core.List.{[], _∷_, _++_};
 ghost use mathlib.Core.Path.{_≡_};
 ghost use Rattle.history.specs.Histories.{nth};
-ghost use Rattle.sheet.specs.Tables.{slots, rows, row, blank, counts, next-clock};
+ghost use Rattle.sheet.specs.Tables.{filled, rows, row, blank, counts, next-clock};
 use crate::clocks::merged;
 use history::Event;
 use history::Wait;
@@ -33,29 +33,42 @@ pub(crate) struct Table {
 
 impl Station {
     fn empty() -> Station
-        ensures { λ r. ⌜ slots r ≡ [] ⌝ }
+        ensures { λ r. ⌜ filled r ≡ [] ⌝ }
     {
-        let wait = Wait { station: 0, count: 0 };
-        let event = Event { variable: 0, value: 0, wait };
-        let slot = Slot { event, clock: [0; 8] };
-        Station { slots: [slot; 64], len: 0 }
+        let wait = Wait {
+            station: 0,
+            count: 0,
+        };
+        let event = Event {
+            variable: 0,
+            value: 0,
+            wait,
+        };
+        let slot = Slot {
+            event,
+            clock: [0; 8],
+        };
+        Station {
+            slots: [slot; 64],
+            len: 0,
+        }
     }
 
     fn held(&self) -> &[Slot]
-        ensures is { λ r. ⌜ now r ≡ slots (now (self .entry)) ⌝ }
+        ensures is { λ r. ⌜ now r ≡ filled (now (self .entry)) ⌝ }
         ensures few { λ r. ⌜ length (now r) ≤ 64 ⌝ }
     {
         &self.slots[0..self.len.min(EVENTS) as usize]
     }
 
     fn events(&self) -> u8
-        ensures { λ r. ⌜ r ≡ length (slots (now (self .entry))) ⌝ }
+        ensures { λ r. ⌜ r ≡ length (filled (now (self .entry))) ⌝ }
     {
         self.held().len() as u8
     }
 
     fn slot(&self, number: u8) -> Option<Slot>
-        ensures { λ r. ⌜ r ≡ nth (slots (now (self .entry))) number ⌝ }
+        ensures { λ r. ⌜ r ≡ nth (filled (now (self .entry))) number ⌝ }
     {
         let held = self.held();
         if number == 0 || number as usize > held.len() {
@@ -65,8 +78,8 @@ impl Station {
     }
 
     fn push(&mut self, slot: Slot)
-        requires { ⌜ length (slots (now self)) < 64 ⌝ }
-        ensures { λ _. ⌜ slots (now (self .exit)) ≡ slots (now (self .entry)) ++ slot ∷ [] ⌝ }
+        requires { ⌜ length (filled (now self)) < 64 ⌝ }
+        ensures { λ _. ⌜ filled (now (self .exit)) ≡ filled (now (self .entry)) ++ slot ∷ [] ⌝ }
     {
         self.slots[self.len as usize] = slot;
         self.len += 1;
@@ -78,7 +91,9 @@ impl Table {
     pub(crate) fn new() -> Table
         ensures { λ r. ⌜ rows r ≡ blank ⌝ }
     {
-        Table { stations: [Station::empty(); 8] }
+        Table {
+            stations: [Station::empty(); 8],
+        }
     }
 
     // How many events the station holds.

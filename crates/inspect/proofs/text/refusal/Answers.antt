@@ -9,4 +9,4 @@ use Rattle.inspect.proofs.text.refusal.Needs as need
 pub returns : need.returns
 returns c =
     subst (λ n. made (c .format .result) (λ s. string-bytes s ≡ codes "refused " ++ (decimal n ++ (codes " at " ++ decimal (c .args .refused .place)))))
-      (c .number-number .ensures) (c .format .ensures .made)
+    (c .number-number .ensures) (c .format .ensures .made)

@@ -19,4 +19,4 @@ pub returns : need.returns
 returns c =
     let l : length (c .args .self .now .slots) ≡ 64 = search needs in
     take-more-set (c .args .self .now .slots) (c .args .self .now .len) (c .args .slot)
-      (omega (arith, length-take (c .args .self .now .len) (c .args .self .now .slots)))
+    (omega (arith, length-take (c .args .self .now .len) (c .args .self .now .slots)))

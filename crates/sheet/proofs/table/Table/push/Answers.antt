@@ -3,7 +3,7 @@ use lib.ListN.{length, set}
 use mathlib.Core.List.{[], _∷_, _++_}
 use mathlib.Core.Path.{sym, ap, _∙_, subst}
 use Rattle.std.proofs.shelf.Lists.{map-set}
-use Rattle.sheet.specs.Tables.{slots, rows}
+use Rattle.sheet.specs.Tables.{filled, rows}
 use Rattle.sheet.proofs.Tables.{row-is}
 use Rattle.sheet.proofs.table.Table.push.Needs as need
 
@@ -12,6 +12,6 @@ push-requires c κs = subst (λ xs. length xs < 64) (row-is (c .args .self .now)
 
 pub returns : need.returns
 returns c =
-    map-set slots (c .args .self .now .stations) (c .args .station) _
-      ∙ ap (λ xs. set (rows (c .args .self .now)) (c .args .station) xs)
-          (c .push .ensures ∙ ap (λ xs. xs ++ c .args .slot ∷ []) (sym (row-is (c .args .self .now) (c .args .station))))
+    map-set filled (c .args .self .now .stations) (c .args .station) _
+    ∙ ap (λ xs. set (rows (c .args .self .now)) (c .args .station) xs)
+    (c .push .ensures ∙ ap (λ xs. xs ++ c .args .slot ∷ []) (sym (row-is (c .args .self .now) (c .args .station))))

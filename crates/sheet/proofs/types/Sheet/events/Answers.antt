@@ -11,4 +11,4 @@ returns-then-station-self c =
 pub returns : need.returns
 returns c =
     c .events .ensures
-      ∙ sym (held-count (c .args .self .now .stations) (c .args .self .now .table) (c .args .station) (c .if-station-self .left) (omega arith))
+    ∙ sym (held-count (c .args .self .now .stations) (c .args .self .now .table) (c .args .station) (c .if-station-self .left) (omega arith))

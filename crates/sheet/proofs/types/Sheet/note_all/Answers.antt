@@ -20,8 +20,9 @@ loop-rest-again c =
     let l : 8 ≤ length (c .loop-rest .rest .now) = search needs in
     let fits : SFits w32 (c .from-be-bytes-value .result) = search needs in
     let one = record-noted (history (c .loop-rest .self)) (history (c .put .last .self)) (c .loop-rest .number) (c .loop-rest .rest .now)
-          (toZ w32 (ofZ w32 (c .from-be-bytes-value .result))) (c .put .result) (c .placed .result) l
-          (toZ-ofZ w32 (c .from-be-bytes-value .result) fits ∙ c .from-be-bytes-value .ensures) (c .put .ensures .answer) (c .put .ensures .after) (c .placed .ensures) (c .in-Continue-placed .was tt) in
-    ( ap (λ xs. noting (history (c .put .last .self)) (c .loop-rest .number + 1) (records xs)) (take-rest (c .loop-rest .rest .now) 8)
-        ∙ sym (one .0) ∙ c .loop-rest .inv .0
-    , omega (arith, one .1, c .loop-rest .inv .1))
+    (toZ w32 (ofZ w32 (c .from-be-bytes-value .result))) (c .put .result) (c .placed .result) l
+    (toZ-ofZ w32 (c .from-be-bytes-value .result) fits ∙ c .from-be-bytes-value .ensures) (c .put .ensures .answer) (c .put .ensures .after) (c .placed .ensures) (c .in-Continue-placed .was tt) in (
+      ap (λ xs. noting (history (c .put .last .self)) (c .loop-rest .number + 1) (records xs)) (take-rest (c .loop-rest .rest .now) 8)
+          ∙ sym (one .0) ∙ c .loop-rest .inv .0,
+      omega (arith, one .1, c .loop-rest .inv .1),
+    )

@@ -9,7 +9,7 @@ use Rattle.sheet.proofs.types.Sheet.note_all.Given as given
 abbrev pub Inv-loop-rest : given.InvT-loop-rest
 Inv-loop-rest l =
     (noting (history (l .self)) (l .number) (records (l .rest)) ≡ noting (history (l .entry .self)) 0 (records (l .entry .rest)))
-      × (total (history (l .self)) ≡ l .number)
+    × (total (history (l .self)) ≡ l .number)
 
 abbrev pub μ-loop-rest : given.MeasureT-loop-rest
 μ-loop-rest l = length (l .rest)

@@ -25,5 +25,5 @@ loop-station-again c = rw add-one (one-more c)
 pub returns : need.returns
 returns c =
     c .loop-station .inv
-      ∙ ap total (take-all (c .loop-station .station) (history (c .args .self .now))
-          (omega (arith, held-length (c .args .self .now .stations) (c .args .self .now .table) (fits (c .args .self .now)), c .loop-station-test .left)))
+    ∙ ap total (take-all (c .loop-station .station) (history (c .args .self .now))
+    (omega (arith, held-length (c .args .self .now .stations) (c .args .self .now .table) (fits (c .args .self .now)), c .loop-station-test .left)))

@@ -1,0 +1,7 @@
+// Examples of every crate, as tests.
+#[cfg(test)]
+mod load;
+#[cfg(test)]
+mod note;
+#[cfg(test)]
+mod told;
