@@ -65,7 +65,7 @@ clock-prop (of-event p w l cp cw q) (of-event p′ w′ l′ cp′ cw′ q′) =
     same-parts l l′ p w cp cw (clock-prop cp) (clock-prop cw) p′ (unique cp cp′) w′ (unique cw cw′) cp′ cw′ q q′
 
 module _ (h : History) (s : ℕ) (x : Event) (on : s < length h) where
-  wait-old : (t n : ℕ) → n ≤ count h t → wait (noted h s x) t n ≡ wait h t n
+  pub wait-old : (t n : ℕ) → n ≤ count h t → wait (noted h s x) t n ≡ wait h t n
   wait-old t n l = ap wait-of (event-old h s x on t n l)
 
   pub kept : {t n : ℕ} {v : List ℕ} → Clock h t n v → Clock (noted h s x) t n v

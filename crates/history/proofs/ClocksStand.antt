@@ -32,7 +32,7 @@ zeros-at : (t : ℕ) → getD zeros t 0 ≡ 0
 zeros-at t = ⊎-elim (λ (l : t < 8). getD-replicate 8 t 0 0 l) (λ l. getD-past zeros t 0 l) (cases-lt t 8)
 
 -- number 0 awaits nothing
-none-awaited : (x : ℕ) → awaits record { station = 0; count = 0 } x ≡ 0
+pub none-awaited : (x : ℕ) → awaits record { station = 0; count = 0 } x ≡ 0
 none-awaited x = cond-both (eqb 0 x) 0 0 (λ n. n ≡ 0) (λ _. refl) (λ _. refl)
 
 clock-zero : {h : History} {t k : ℕ} {u : List ℕ} → Clock h t k u → k ≡ 0 → (x : ℕ) → getD u x 0 ≡ 0

@@ -4,3 +4,6 @@ pub mod Clocks
 pub mod ClocksStand
 pub mod Totals
 pub mod Loads
+pub mod Occurs
+pub mod Runs
+pub mod Extension

@@ -3,3 +3,5 @@ pub mod Histories
 pub mod Notes
 pub mod RunFiles
 pub mod Clocks
+pub mod Orders
+pub mod Cuts
