@@ -35,7 +35,7 @@ zeros-at t = ⊎-elim (λ (l : t < 8). getD-replicate 8 t 0 0 l) (λ l. getD-pas
 pub none-awaited : (x : ℕ) → awaits record { station = 0; count = 0 } x ≡ 0
 none-awaited x = cond-both (eqb 0 x) 0 0 (λ n. n ≡ 0) (λ _. refl) (λ _. refl)
 
-clock-zero : {h : History} {t k : ℕ} {u : List ℕ} → Clock h t k u → k ≡ 0 → (x : ℕ) → getD u x 0 ≡ 0
+pub clock-zero : {h : History} {t k : ℕ} {u : List ℕ} → Clock h t k u → k ≡ 0 → (x : ℕ) → getD u x 0 ≡ 0
 clock-zero (missing z) _ x = ap (λ y. getD y x 0) z ∙ zeros-at x
 clock-zero (of-event {n = n} _ _ _ _ _ _) p x = let q : ⊥ = omega arith in absurd q
 

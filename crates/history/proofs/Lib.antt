@@ -7,3 +7,6 @@ pub mod Loads
 pub mod Occurs
 pub mod Runs
 pub mod Extension
+pub mod Precedes
+pub mod Readiness
+pub mod Words

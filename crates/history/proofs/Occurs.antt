@@ -65,9 +65,13 @@ stands-find o s n (suc m) p l = ⊎-elim
     by-last : occurs s (take m o) < n → (i : ℕ) × (i < suc m) × Stands o s n i
     by-last b = ⊎-elim
         (λ (w : m < length o). ⊎-elim
-          (λ (e : getD o m 0 ≡ s). (m, omega arith, record
-            { within = w; station = e; number = ap (λ x. suc (occurs x (take m o))) e ∙ omega (arith, occurs-more s o m w, one-same (getD o m 0) s e) }))
-          (λ ne. let z : ⊥ = omega (arith, occurs-more s o m w, one-other (getD o m 0) s ne) in absurd z)
-          (cases-eq (getD o m 0) s))
+        (λ (e : getD o m 0 ≡ s). (
+          m,
+          omega arith,
+          record
+              { within = w; station = e; number = ap (λ x. suc (occurs x (take m o))) e ∙ omega (arith, occurs-more s o m w, one-same (getD o m 0) s e) },
+        ))
+        (λ ne. let z : ⊥ = omega (arith, occurs-more s o m w, one-other (getD o m 0) s ne) in absurd z)
+        (cases-eq (getD o m 0) s))
         (λ w. let z : ⊥ = omega (arith, ap (occurs s) (take-all (suc m) o (omega arith) ∙ sym (take-all m o w))) in absurd z)
         (cases-lt m (length o))

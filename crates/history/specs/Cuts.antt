@@ -59,7 +59,7 @@ Orders-exist = (h : History) → Made h → (o : List ℕ) × Compatible h o
 abbrev pub Clocks-precede : Type 0
 Clocks-precede =
     (h : History) → Made h → (s n t k : ℕ) (v : List ℕ) → There h s n → There h t k → Clock h t k v
-      → ((o : List ℕ) → Compatible h o → Earlier o s n t k) ↔ ((n ≤ getD v s 0) × ((s ≡ t) × (n ≡ k) → ⊥))
+    → ((o : List ℕ) → Compatible h o → Earlier o s n t k) ↔ ((n ≤ getD v s 0) × ((s ≡ t) × (n ≡ k) → ⊥))
 
 -- At a closed cut the next event of a station is ready exactly when all that it awaits is done.
 abbrev pub Ready-when-awaited : Type 0

@@ -5,3 +5,5 @@ pub mod RunFiles
 pub mod Clocks
 pub mod Orders
 pub mod Cuts
+pub mod Words
+pub mod Precedence

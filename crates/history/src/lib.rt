@@ -1,8 +1,10 @@
 // The events of a batch sheet as plain values, and every reason for which a call is turned away.
 ghost use mathlib.Core.Path.{_≡_};
 ghost use Rattle.history.specs.Clocks.{Clocks-stand};
+ghost use Rattle.history.specs.Cuts.{Cuts-extend, Orders-exist, Clocks-precede, Ready-when-awaited, Steps-are-orders};
 ghost use Rattle.history.specs.Refusals.{number as numbered};
 ghost use Rattle.history.specs.RunFiles.{Load-places, Records-in-turn};
+ghost use Rattle.history.specs.Words.{Words-follow};
 
 // What an event waits for: the first `count` events of `station`. Count 0 waits for nothing.
 #[derive(Clone, Copy, PartialEq, Eq, Debug)]
@@ -17,6 +19,21 @@ pub struct Event {
     pub variable: u8,
     pub value: i32,
     pub wait: Wait,
+}
+
+// An event by its station and its number there, counted from 1.
+#[derive(Clone, Copy, PartialEq, Eq, Debug)]
+pub struct EventId {
+    pub station: u8,
+    pub number: u8,
+}
+
+// An event as a rule sees it: where it happened and what it set.
+#[derive(Clone, Copy, PartialEq, Eq, Debug)]
+pub struct Label {
+    pub station: u8,
+    pub variable: u8,
+    pub value: i32,
 }
 
 // Why a call is turned away.
@@ -113,4 +130,34 @@ pub fn records_in_turn()
 // The place of a load's refusal is at most 513.
 pub fn load_places()
     ensures { λ _. ⌜ Load-places ⌝ }
+{}
+
+// Every closed cut of a history made by notes is passed by a compatible order.
+pub fn cuts_extend()
+    ensures { λ _. ⌜ Cuts-extend ⌝ }
+{}
+
+// Every history made by notes has a compatible order.
+pub fn orders_exist()
+    ensures { λ _. ⌜ Orders-exist ⌝ }
+{}
+
+// An event comes earlier than another in every compatible order exactly when it lies within the other's clock.
+pub fn clocks_precede()
+    ensures { λ _. ⌜ Clocks-precede ⌝ }
+{}
+
+// At a closed cut the next event of a station is ready exactly when all that it awaits is done.
+pub fn ready_when_awaited()
+    ensures { λ _. ⌜ Ready-when-awaited ⌝ }
+{}
+
+// The sequences of ready events from the empty cut to the full one are exactly the compatible orders.
+pub fn steps_are_orders()
+    ensures { λ _. ⌜ Steps-are-orders ⌝ }
+{}
+
+// The word of an order has at each position the label of the event that stands there.
+pub fn words_follow()
+    ensures { λ _. ⌜ Words-follow ⌝ }
 {}
