@@ -70,7 +70,7 @@ stands-in h o k s n l =
     (f .0, f .2)
 
 -- within the clock: earlier in every order
-within-earlier : (h : History) (s n t k : ℕ) (v : List ℕ) → There h s n → There h t k → Clock h t k v → n ≤ getD v s 0 → ((s ≡ t) × (n ≡ k) → ⊥)
+pub within-earlier : (h : History) (s n t k : ℕ) (v : List ℕ) → There h s n → There h t k → Clock h t k v → n ≤ getD v s 0 → ((s ≡ t) × (n ≡ k) → ⊥)
     → (o : List ℕ) → Compatible h o → Earlier o s n t k
 within-earlier h s n t k v ls lt c w other o compatible =
     let first = stands-in h o compatible s n ls in
@@ -102,7 +102,7 @@ within-earlier h s n t k v ls lt c w other o compatible =
     }
 
 -- earlier in every order, and so in one that passes the clock as a cut
-earlier-within : (h : History) → Made h → (s n t k : ℕ) (v : List ℕ) → There h t k → Clock h t k v
+pub earlier-within : (h : History) → Made h → (s n t k : ℕ) (v : List ℕ) → There h t k → Clock h t k v
     → ((o : List ℕ) → Compatible h o → Earlier o s n t k) → (n ≤ getD v s 0) × ((s ≡ t) × (n ≡ k) → ⊥)
 earlier-within h m s n t k v lt c every = (
   omega (arith, stands-before (r .0) s n (e .first) (e .stands-first) (r .2 .position) reached, r .2 .done s),

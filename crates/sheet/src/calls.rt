@@ -1,9 +1,10 @@
-// The calls of a sheet: new, open, note, load and reach.
+// The calls of a sheet: new, open, note, load, reach and precedes.
 ghost use mathlib.Core.Bool.{true};
 ghost use mathlib.Core.Path.{_≡_};
 ghost use Rattle.history.specs.Histories.{fresh, opened, noted, total};
 ghost use Rattle.history.specs.Notes.{allowed-count, note-answer, after-note, open-answer, after-open, placed as at-place};
 ghost use Rattle.history.specs.Clocks.{Reached};
+ghost use Rattle.history.specs.Precedence.{Preceded};
 ghost use Rattle.history.specs.RunFiles.{load-answer, loaded, told};
 ghost use Rattle.sheet.specs.Sheets.{history, Noted-all};
 ghost use Rattle.std.specs.Results.{isErr};
@@ -15,6 +16,8 @@ use crate::table::Slot;
 use crate::table::Table;
 use crate::types::Sheet;
 use history::Event;
+use history::EventId;
+use history::EventIdPartialEq;
 use history::Refusal;
 use history::Refused;
 use history::RefusedFrom;
@@ -166,5 +169,14 @@ impl Sheet {
     {
         *counts = self.clock(station, number).ok_or(Refusal::NoSuchEvent)?;
         Ok(())
+    }
+
+    // Whether the first event comes earlier than the second in every compatible order.
+    pub fn precedes(&self, first: EventId, second: EventId) -> Result<bool, Refused>
+        ensures { λ r. ⌜ Preceded (history (now (self .entry))) first second r ⌝ }
+    {
+        self.clock(first.station, first.number).ok_or(Refusal::NoSuchEvent)?;
+        let reach = self.clock(second.station, second.number).ok_or(Refusal::NoSuchEvent)?;
+        Ok(first != second && first.number <= reach[first.station as usize])
     }
 }
