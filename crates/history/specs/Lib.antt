@@ -7,3 +7,4 @@ pub mod Orders
 pub mod Cuts
 pub mod Words
 pub mod Precedence
+pub mod Shown

@@ -6,6 +6,12 @@ ghost use Rattle.history.specs.Refusals.{number as numbered};
 ghost use Rattle.history.specs.RunFiles.{Load-places, Records-in-turn};
 ghost use Rattle.history.specs.Words.{Words-follow};
 
+mod shown;
+
+pub use shown::Counts;
+pub use shown::CountsDisplay;
+pub use shown::RefusedDisplay;
+
 // What an event waits for: the first `count` events of `station`. Count 0 waits for nothing.
 #[derive(Clone, Copy, PartialEq, Eq, Debug)]
 pub struct Wait {

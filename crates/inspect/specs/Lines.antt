@@ -2,12 +2,10 @@
 use Prim.Native.Nat.{ℕ}
 use lib.Chars.{codes}
 use lib.Dec.{eqb}
-use lib.ListN.{getD}
 use mathlib.Core.Bool.{cond}
 use mathlib.Core.List.{List, _++_}
-use Rattle.history.specs.Refusals.{number}
+use Rattle.history.specs.Shown.{clock-words}
 use Rattle.history.specs.declared.Event.{Event}
-use Rattle.history.specs.declared.Refused.{Refused}
 use Rattle.history.specs.declared.Wait.{Wait}
 use Rattle.std.specs.Written.{decimal, signed}
 
@@ -19,15 +17,6 @@ heading-line stations events = codes "stations " ++ (decimal stations ++ (codes 
 abbrev pub wait-words : Wait → List ℕ
 wait-words w = cond (eqb (w .count) 0) (codes "nothing") (decimal (w .count) ++ (codes " of station " ++ decimal (w .station)))
 
-abbrev at : List ℕ → ℕ → List ℕ
-at v k = decimal (getD v k 0)
-
--- the eight counts, with a blank between
-abbrev pub clock-words : List ℕ → List ℕ
-clock-words v =
-    (at v 0 ++ (codes " " ++ (at v 1 ++ (codes " " ++ (at v 2 ++ (codes " " ++ at v 3))))))
-    ++ (codes " " ++ (at v 4 ++ (codes " " ++ (at v 5 ++ (codes " " ++ (at v 6 ++ (codes " " ++ at v 7)))))))
-
 -- variable 1 = -5
 abbrev pub setting-words : Event → List ℕ
 setting-words e = codes "variable " ++ (decimal (e .variable) ++ (codes " = " ++ signed (e .value)))
@@ -37,7 +26,3 @@ abbrev pub event-line : ℕ → ℕ → Event → List ℕ → List ℕ
 event-line s n e v =
     codes "station " ++ (decimal s ++ (codes " event " ++ (decimal n ++ (codes ": " ++ (setting-words e
     ++ (codes ", waits for " ++ (wait-words (e .wait) ++ (codes ", reach " ++ clock-words v))))))))
-
--- refused 5 at 2
-abbrev pub refusal-line : Refused → List ℕ
-refusal-line why = codes "refused " ++ (decimal (number (why .refusal)) ++ (codes " at " ++ decimal (why .place)))

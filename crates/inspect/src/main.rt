@@ -1,11 +1,10 @@
 // Reads batch.run and prints what it holds.
 mod text;
 
-use history::Refused;
+use history::RefusedDisplay;
 use sheet::Sheet;
 use std::error::AnyError;
 use std::fs::File;
-use std::io;
 use std::io::Read;
 
 // The longest file that is read.
@@ -45,7 +44,7 @@ fn run(rt: &LibcRuntime) -> Result<(), AnyError> {
     };
     let mut sheet = Sheet::new();
     if let Err(refused) = sheet.load(&file) {
-        rt.println(text::refusal(rt.alloc(), refused)?)?;
+        rt.println(refused)?;
         return Ok(());
     }
     show(rt, &sheet)

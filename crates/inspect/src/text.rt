@@ -2,13 +2,14 @@
 ghost use lib.ListN.{getD, length};
 ghost use mathlib.Core.List.{_++_};
 ghost use mathlib.Core.Path.{_≡_};
-ghost use Rattle.inspect.specs.Lines.{heading-line, setting-words, wait-words, clock-words, event-line, refusal-line};
+ghost use Rattle.inspect.specs.Lines.{heading-line, setting-words, wait-words, event-line};
 ghost use Rattle.history.specs.Histories.{total as all-events};
 ghost use Rattle.sheet.specs.Sheets.{history};
 ghost use Rattle.std.specs.Of.String.{string-bytes};
 ghost use Rattle.std.specs.Vec.{made};
+use history::Counts;
+use history::CountsDisplay;
 use history::Event;
-use history::Refused;
 use history::Wait;
 use sheet::Sheet;
 use std::alloc::AllocError;
@@ -32,15 +33,6 @@ fn wait(heap: Global, wait: Wait) -> Result<String, AllocError>
         return String::from_str(heap, "nothing");
     }
     format!(heap, "{count} of station {station}")
-}
-
-// The eight counts.
-fn counts(heap: Global, clock: [u8; 8]) -> Result<String, AllocError>
-    ensures { λ r. ⌜ made r (λ s. string-bytes s ≡ clock-words clock) ⌝ }
-{
-    let [a, b, c, d, e, f, g, h] = clock;
-    let front = format!(heap, "{a} {b} {c} {d}")?;
-    format!(heap, "{front} {e} {f} {g} {h}")
 }
 
 // What an event sets.
@@ -67,18 +59,9 @@ pub fn event(
 {
     let set = setting(heap, event)?;
     let awaited = wait(heap, event.wait)?;
-    let reach = counts(heap, clock)?;
+    let reach = Counts(clock);
     format!(
         heap,
         "station {station} event {number}: {set}, waits for {awaited}, reach {reach}"
     )
-}
-
-// Why the file is turned away.
-pub fn refusal(heap: Global, refused: Refused) -> Result<String, AllocError>
-    ensures { λ r. ⌜ made r (λ s. string-bytes s ≡ refusal-line refused) ⌝ }
-{
-    let number = refused.refusal.number();
-    let place = refused.place;
-    format!(heap, "refused {number} at {place}")
 }

@@ -52,23 +52,26 @@ module _ (sheet : Sheet) (a b : EventId) (u v : List ℕ)
 
   answers : Decides both (Always-earlier (history sheet) a b)
   unfolding both
-  answers =
-      ( λ p. let q = and-parts other (leb (a .number) (getD v (a .station) 0)) p in
-          within-earlier (history sheet) (a .station) (a .number) (b .station) (b .number) v (first .0) (second .0) (second .1 .is)
-            (leb-true _ _ (q .1)) (decides .0 (q .0))
-      , λ every. ∥∥₁-elim (sheet .made) (Bool-set _ _) (λ m.
-          let w = earlier-within (history sheet) m (a .station) (a .number) (b .station) (b .number) v (second .0) (second .1 .is) every in
-          and-from other (leb (a .number) (getD v (a .station) 0)) (decides .1 (w .1)) (le-leb _ _ (w .0))))
+  answers = (
+    λ p. let q = and-parts other (leb (a .number) (getD v (a .station) 0)) p in
+        within-earlier (history sheet) (a .station) (a .number) (b .station) (b .number) v (first .0) (second .0) (second .1 .is)
+        (leb-true _ _ (q .1)) (decides .0 (q .0)),
+    λ every. ∥∥₁-elim (sheet .made) (Bool-set _ _) (λ m.
+        let w = earlier-within (history sheet) m (a .station) (a .number) (b .station) (b .number) v (second .0) (second .1 .is) every in
+        and-from other (leb (a .number) (getD v (a .station) 0)) (decides .1 (w .1)) (le-leb _ _ (w .0))),
+  )
 
   -- what is answered where the two are one event, and where they are not
   pub answers-same : other ≡ false → Preceded (history sheet) a b (Ok other)
   unfolding both
-  answers-same p =
-      ( (first .0, second .0)
-      , subst (λ x. Decides x (Always-earlier (history sheet) a b)) (and-left other (leb (a .number) (getD v (a .station) 0)) p ∙ sym p) answers)
+  answers-same p = (
+    (first .0, second .0),
+    subst (λ x. Decides x (Always-earlier (history sheet) a b)) (and-left other (leb (a .number) (getD v (a .station) 0)) p ∙ sym p) answers,
+  )
 
   pub answers-apart : other ≡ true → Preceded (history sheet) a b (Ok (leb (a .number) (getD v (a .station) 0)))
   unfolding both
-  answers-apart p =
-      ( (first .0, second .0)
-      , subst (λ x. Decides (x && leb (a .number) (getD v (a .station) 0)) (Always-earlier (history sheet) a b)) p answers)
+  answers-apart p = (
+    (first .0, second .0),
+    subst (λ x. Decides (x && leb (a .number) (getD v (a .station) 0)) (Always-earlier (history sheet) a b)) p answers,
+  )

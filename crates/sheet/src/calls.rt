@@ -175,8 +175,10 @@ impl Sheet {
     pub fn precedes(&self, first: EventId, second: EventId) -> Result<bool, Refused>
         ensures { λ r. ⌜ Preceded (history (now (self .entry))) first second r ⌝ }
     {
-        self.clock(first.station, first.number).ok_or(Refusal::NoSuchEvent)?;
-        let reach = self.clock(second.station, second.number).ok_or(Refusal::NoSuchEvent)?;
+        self.clock(first.station, first.number)
+            .ok_or(Refusal::NoSuchEvent)?;
+        let reach = self.clock(second.station, second.number)
+            .ok_or(Refusal::NoSuchEvent)?;
         Ok(first != second && first.number <= reach[first.station as usize])
     }
 }
