@@ -6,6 +6,7 @@ use Rattle.history.specs.Shown.{clock-words}
 use Rattle.std.proofs.shelf.Results.{made-weaker}
 use Rattle.std.specs.Of.String.{string-bytes}
 use Rattle.std.specs.Written.{decimal}
+use Rattle.inspect.specs.Lines.{setting-words}
 use Rattle.inspect.proofs.text.event.Needs as need
 
 abbrev line : ℕ → ℕ → List ℕ → List ℕ → List ℕ → List ℕ
@@ -21,5 +22,5 @@ returns c =
     _ (λ s e. e
     ∙ ap (λ x. line (c .args .station) (c .args .number) x (string-bytes (c .in-Continue-awaited .awaited)) (clock-words (c .args .clock)))
     (c .in-Continue-set .ensures tt)
-    ∙ ap (λ x. line (c .args .station) (c .args .number) _ x (clock-words (c .args .clock))) (c .in-Continue-awaited .ensures tt))
+    ∙ ap (λ x. line (c .args .station) (c .args .number) (setting-words (c .args .event)) x (clock-words (c .args .clock))) (c .in-Continue-awaited .ensures tt))
     (c .format .ensures .made)
