@@ -4,4 +4,6 @@ mod load;
 #[cfg(test)]
 mod note;
 #[cfg(test)]
+mod precedes;
+#[cfg(test)]
 mod told;
