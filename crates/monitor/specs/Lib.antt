@@ -1,0 +1,4 @@
+pub mod Meanings
+pub mod Guards
+pub mod Combinations
+pub mod Laws
