@@ -1,4 +1,6 @@
 pub mod Meanings
 pub mod Guards
 pub mod Combinations
+pub mod Tables
+pub mod Described
 pub mod Laws
