@@ -1,2 +1,5 @@
 pub mod Below
 pub mod Tables
+pub mod EitherDriven
+pub mod BothDriven
+pub mod OnlyDriven

@@ -24,7 +24,8 @@ guard-listed d ok k l =
     let p : ℕ → Bool = λ i. arc-lawful (d .states) (guard-count d) (arc-at (d .arcs) i) in
     let arcs = and-parts (all-below (guard-count d) (guard-lawful (d .guards))) _ (and-parts states _ (and-parts whole _ ok .1) .1) .1 in
     let arc = all-at (arc-count d) p arcs k l in
-    let g : arc-at (d .arcs) k .guard < length (d .guards) / 10 = ltb-true _ _ (and-parts (ltb _ _) _ (and-parts (ltb _ _) _ arc .1) .0) in
+    let end = and-parts (ltb (arc-at (d .arcs) k .from) (d .states)) _ arc .1 in
+    let g = ltb-true (arc-at (d .arcs) k .guard) (length (d .guards) / 10) (and-parts (ltb (arc-at (d .arcs) k .guard) (guard-count d)) _ end .0) in
     omega (arith, g)
 
 -- one arc more of a step's search
@@ -32,7 +33,7 @@ module _ (d : Description) (s : ℕ) (e : Label) (t : ℕ) where
   pub found : (k : ℕ) → k < arc-count d → leads d s e k ≡ true → arc-at (d .arcs) k .to ≡ t → moves d s e t ≡ true
   found k l lead to =
       cond-true (any-below (arc-count d) (leads d s e)) _ _ (any-has (arc-count d) (leads d s e) k l lead)
-        ∙ any-has (arc-count d) (λ i. leads d s e i && eqb (arc-at (d .arcs) i .to) t) k l (and-from _ _ lead (eq-eqb _ _ to))
+      ∙ any-has (arc-count d) (λ i. leads d s e i && eqb (arc-at (d .arcs) i .to) t) k l (and-from _ _ lead (eq-eqb _ _ to))
 
   pub left-more : (k : ℕ) → leads d s e k ≡ true → true ≡ any-below (k + 1) (leads d s e)
   left-more k lead = sym (any-more k (leads d s e) ∙ or-right (any-below k (leads d s e)) (leads d s e k) lead)

@@ -20,9 +20,9 @@ triggers g e =
 abbrev pub guard-at : List ℕ → ℕ → Guard
 guard-at bytes k =
     let b : ℕ → ℕ = λ j. getD bytes (10 * k + j) 0 in
-    record
-      { variable = b 0
-      ; low = signed (b 1) (b 2) (b 3) (b 4)
-      ; high = signed (b 5) (b 6) (b 7) (b 8)
-      ; outside = eqb (b 9) 1
-      }
+    record {
+      variable = b 0;
+      low = signed (b 1) (b 2) (b 3) (b 4);
+      high = signed (b 5) (b 6) (b 7) (b 8);
+      outside = eqb (b 9) 1;
+    }

@@ -23,44 +23,44 @@ below : (s n : ℕ) (rest : Bool) → (ltb s n && rest) ≡ true → s < n
 below s n rest p = ltb-true s n (and-parts (ltb s n) rest p .0)
 
 pub either-lawful : (a b : Meaning) → Lawful (either a b)
-either-lawful a b = record
-  { few = limited-few (a .states) (b .states) (a .states + b .states)
-  ; starts = λ s p. below s _ _ p
-  ; bads = λ s p. below s _ _ p
-  ; from = λ s e t p. below s _ _ p
-  ; to = λ s e t p. below t _ _ (and-parts (ltb s _) _ p .1)
-  }
+either-lawful a b = record {
+  few = limited-few (a .states) (b .states) (a .states + b .states);
+  starts = λ s p. below s _ _ p;
+  bads = λ s p. below s _ _ p;
+  from = λ s e t p. below s _ _ p;
+  to = λ s e t p. below t _ _ (and-parts (ltb s _) _ p .1);
+}
 
 pub both-lawful : (a b : Meaning) → Lawful (both a b)
-both-lawful a b = record
-  { few = limited-few (a .states) (b .states) (a .states * b .states)
-  ; starts = λ s p. below s _ _ p
-  ; bads = λ s p. below s _ _ p
-  ; from = λ s e t p. below s _ _ p
-  ; to = λ s e t p. below t _ _ (and-parts (ltb s _) _ p .1)
-  }
+both-lawful a b = record {
+  few = limited-few (a .states) (b .states) (a .states * b .states);
+  starts = λ s p. below s _ _ p;
+  bads = λ s p. below s _ _ p;
+  from = λ s e t p. below s _ _ p;
+  to = λ s e t p. below t _ _ (and-parts (ltb s _) _ p .1);
+}
 
 pub only-lawful : (mask : ℕ) (m : Meaning) → Lawful m → Lawful (only mask m)
-only-lawful mask m law = record
-  { few = law .few
-  ; starts = law .starts
-  ; bads = law .bads
-  ; from = λ s e t. cond-both (hears mask (e .variable)) (m .step s e t) (ltb s (m .states) && eqb s t) (λ x. x ≡ true → s < m .states)
-      (λ _ p. law .from s e t p) (λ _ p. below s _ _ p)
-  ; to = λ s e t. cond-both (hears mask (e .variable)) (m .step s e t) (ltb s (m .states) && eqb s t) (λ x. x ≡ true → t < m .states)
+only-lawful mask m law = record {
+  few = law .few;
+  starts = law .starts;
+  bads = law .bads;
+  from = λ s e t. cond-both (hears mask (e .variable)) (m .step s e t) (ltb s (m .states) && eqb s t) (λ x. x ≡ true → s < m .states)
+      (λ _ p. law .from s e t p) (λ _ p. below s _ _ p);
+  to = λ s e t. cond-both (hears mask (e .variable)) (m .step s e t) (ltb s (m .states) && eqb s t) (λ x. x ≡ true → t < m .states)
       (λ _ p. law .to s e t p)
-      (λ _ p. subst (λ i. i < m .states) (eqb-true s t (and-parts (ltb s (m .states)) (eqb s t) p .1)) (below s _ _ p))
-  }
+      (λ _ p. subst (λ i. i < m .states) (eqb-true s t (and-parts (ltb s (m .states)) (eqb s t) p .1)) (below s _ _ p));
+}
 
 pub table-lawful : (d : Description) → lawful-table d ≡ true → Lawful (table d)
-table-lawful d ok = record
-  { few =
+table-lawful d ok = record {
+  few =
       let whole = eqb (length (d .guards) % 10) 0 && eqb (length (d .arcs) % 3) 0 in
       let states = states-lawful (d .states) (d .initial) (d .bad) in
       let most = and-parts (leb 1 (d .states)) _ (and-parts states _ (and-parts whole _ ok .1) .0) .1 in
-      omega (arith, leb-true (d .states) 64 (and-parts (leb (d .states) 64) _ most .0))
-  ; starts = λ s p. below s _ _ p
-  ; bads = λ s p. below s _ _ p
-  ; from = λ s e t p. below s _ _ p
-  ; to = λ s e t p. below t _ _ (and-parts (ltb s _) _ p .1)
-  }
+      omega (arith, leb-true (d .states) 64 (and-parts (leb (d .states) 64) _ most .0));
+  starts = λ s p. below s _ _ p;
+  bads = λ s p. below s _ _ p;
+  from = λ s e t p. below s _ _ p;
+  to = λ s e t p. below t _ _ (and-parts (ltb s _) _ p .1);
+}

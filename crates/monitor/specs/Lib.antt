@@ -4,3 +4,4 @@ pub mod Combinations
 pub mod Tables
 pub mod Described
 pub mod Laws
+pub mod Driven

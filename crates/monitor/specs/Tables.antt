@@ -55,9 +55,9 @@ states-lawful states initial bad = leb 1 states && (leb states 64 && (ltb initia
 abbrev pub lawful-table : Description → Bool
 lawful-table d =
     (eqb (length (d .guards) % 10) 0 && eqb (length (d .arcs) % 3) 0)
-      && (states-lawful (d .states) (d .initial) (d .bad)
-      && (all-below (guard-count d) (guard-lawful (d .guards))
-      && all-below (arc-count d) (λ k. arc-lawful (d .states) (guard-count d) (arc-at (d .arcs) k))))
+    && (states-lawful (d .states) (d .initial) (d .bad)
+    && (all-below (guard-count d) (guard-lawful (d .guards))
+    && all-below (arc-count d) (λ k. arc-lawful (d .states) (guard-count d) (arc-at (d .arcs) k))))
 
 abbrev pub fill-answer : Description → Answer
 fill-answer d = cond (lawful-table d) (Ok tt) (Err BadTable)
@@ -71,16 +71,16 @@ leads d s e k =
 abbrev pub moves : Description → ℕ → Label → ℕ → Bool
 moves d s e t =
     cond (any-below (arc-count d) (leads d s e))
-      (any-below (arc-count d) (λ k. leads d s e k && eqb (arc-at (d .arcs) k .to) t))
-      (eqb s t)
+    (any-below (arc-count d) (λ k. leads d s e k && eqb (arc-at (d .arcs) k .to) t))
+    (eqb s t)
 
 abbrev pub table : Description → Meaning
-table d = record
-  { states = d .states
-  ; start = λ s. ltb s (d .states) && eqb s (d .initial)
-  ; bad = λ s. ltb s (d .states) && eqb ((d .bad / 2 ^ s) % 2) 1
-  ; step = λ s e t. ltb s (d .states) && (ltb t (d .states) && moves d s e t)
-  }
+table d = record {
+  states = d .states;
+  start = λ s. ltb s (d .states) && eqb s (d .initial);
+  bad = λ s. ltb s (d .states) && eqb ((d .bad / 2 ^ s) % 2) 1;
+  step = λ s e t. ltb s (d .states) && (ltb t (d .states) && moves d s e t);
+}
 
 -- what a new table holds: one state, which is not bad and which every event keeps
 abbrev pub idle : Description

@@ -1,6 +1,7 @@
 // Combinations of monitors: either, both, and only the events of some variables.
 ghost use mathlib.Core.Path.{_≡_};
 ghost use Rattle.monitor.specs.Combinations.{limited as limit, either, both, only, hears};
+ghost use Rattle.monitor.specs.Driven.{Either-driven, Both-driven, Only-driven};
 ghost use Rattle.monitor.specs.Laws.{either-lawful, both-lawful, only-lawful};
 use crate::interface::Monitor;
 use history::Label;
@@ -27,7 +28,8 @@ pub struct Either<L, R> {
 
 impl<L: Monitor, R: Monitor> Either<L, R> {
     pub fn new(left: L, right: R) -> Self
-        ensures { λ r. ⌜ r ≡ record { left = left; right = right } ⌝ }
+        ensures parts { λ r. ⌜ r ≡ record { left = left; right = right } ⌝ }
+        ensures driven { λ r. ⌜ Either-driven (L·Monitor .meaning (r .left)) (R·Monitor .meaning (r .right)) ⌝ }
     {
         Either { left, right }
     }
@@ -88,7 +90,8 @@ pub struct Both<L, R> {
 
 impl<L: Monitor, R: Monitor> Both<L, R> {
     pub fn new(left: L, right: R) -> Self
-        ensures { λ r. ⌜ r ≡ record { left = left; right = right } ⌝ }
+        ensures parts { λ r. ⌜ r ≡ record { left = left; right = right } ⌝ }
+        ensures driven { λ r. ⌜ Both-driven (L·Monitor .meaning (r .left)) (R·Monitor .meaning (r .right)) ⌝ }
     {
         Both { left, right }
     }
@@ -121,7 +124,8 @@ pub impl<L: Monitor, R: Monitor> Monitor for Both<L, R> as BothMonitor {
         if from >= states || to >= states {
             return false;
         }
-        self.left.steps(from / right, event, to / right) && self.right.steps(from % right, event, to % right)
+        self.left.steps(from / right, event, to / right)
+            && self.right.steps(from % right, event, to % right)
     }
 }
 
@@ -134,7 +138,8 @@ pub struct Only<M> {
 
 impl<M: Monitor> Only<M> {
     pub fn new(mask: u32, below: M) -> Self
-        ensures { λ r. ⌜ r ≡ record { mask = mask; below = below } ⌝ }
+        ensures parts { λ r. ⌜ r ≡ record { mask = mask; below = below } ⌝ }
+        ensures driven { λ r. ⌜ Only-driven (r .mask) (M·Monitor .meaning (r .below)) ⌝ }
     {
         Only { mask, below }
     }

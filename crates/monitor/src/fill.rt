@@ -23,6 +23,7 @@ const STATES: u8 = 64;
 
 // The bytes of a guard and of an arc.
 const GUARD: usize = 10;
+
 const ARC: usize = 3;
 
 // Whether every guard's outside byte is 0 or 1.
@@ -81,13 +82,24 @@ impl<'a> Table<'a> {
     }
 
     // Becomes the table of these states, initial state, mask of bad states, guards and arcs.
-    pub fn fill(&mut self, states: u8, initial: u8, bad: u64, guards: &'a [u8], arcs: &'a [u8]) -> Result<(), Refused>
+    pub fn fill(
+        &mut self,
+        states: u8,
+        initial: u8,
+        bad: u64,
+        guards: &'a [u8],
+        arcs: &'a [u8],
+    ) -> Result<(), Refused>
         ensures answer { λ r. ⌜ r ≡ at-place 0 (fill-answer (record { states = states; initial = initial; bad = bad; guards = now (guards .entry); arcs = now (arcs .entry) })) ⌝ }
         ensures filled { λ r. ⌜ (isOk r ≡ true → described (now (self .exit)) ≡ record { states = states; initial = initial; bad = bad; guards = now (guards .entry); arcs = now (arcs .entry) }) ⌝ }
         ensures kept { λ r. ⌜ (isErr r ≡ true → now (self .exit) ≡ now (self .entry)) ⌝ }
     {
         let whole = guards.len() % GUARD == 0 && arcs.len() % ARC == 0;
-        if !whole || !states_lawful(states, initial, bad) || !guards_lawful(guards) || !arcs_lawful(arcs, states, guards.len() / GUARD) {
+        if !whole
+            || !states_lawful(states, initial, bad)
+            || !guards_lawful(guards)
+            || !arcs_lawful(arcs, states, guards.len() / GUARD)
+        {
             Err(Refusal::BadTable)?;
         }
         *self = Table {

@@ -9,4 +9,4 @@ use Rattle.monitor.proofs.combine.heard.Needs as need
 pub returns-then-variable-lt32 : need.returns-then-variable-lt32
 returns-then-variable-lt32 c =
     bit-set (c .args .mask) (c .args .variable)
-      ∙ ap (λ b. b && eqb ((c .args .mask / 2 ^ c .args .variable) % 2) 1) (sym (lt-ltb (c .args .variable) 32 (c .if-variable-lt32 .taken)))
+    ∙ ap (λ b. b && eqb ((c .args .mask / 2 ^ c .args .variable) % 2) 1) (sym (lt-ltb (c .args .variable) 32 (c .if-variable-lt32 .taken)))

@@ -9,5 +9,5 @@ use Rattle.monitor.proofs.fill.TableMonitor.is_bad.Needs as need
 pub returns-then-state-self : need.returns-then-state-self
 returns-then-state-self c =
     bit-set (c .args .self .now .bad) (c .args .state)
-      ∙ ap (λ b. b && eqb ((c .args .self .now .bad / 2 ^ c .args .state) % 2) 1)
-          (sym (lt-ltb (c .args .state) (c .args .self .now .states) (c .if-state-self .taken)))
+    ∙ ap (λ b. b && eqb ((c .args .self .now .bad / 2 ^ c .args .state) % 2) 1)
+    (sym (lt-ltb (c .args .state) (c .args .self .now .states) (c .if-state-self .taken)))

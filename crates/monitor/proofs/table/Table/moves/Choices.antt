@@ -8,4 +8,4 @@ use Rattle.monitor.proofs.table.Table.moves.Given as given
 abbrev pub Inv-loop-k : given.InvT-loop-k
 Inv-loop-k l =
     (l .leaves ≡ any-below (l .k) (leads (described (l .self)) (l .from) (l .event)))
-      × (any-below (l .k) (λ k. leads (described (l .self)) (l .from) (l .event) k && eqb (arc-at (described (l .self) .arcs) k .to) (l .to)) ≡ false)
+    × (any-below (l .k) (λ k. leads (described (l .self)) (l .from) (l .event) k && eqb (arc-at (described (l .self) .arcs) k .to) (l .to)) ≡ false)
