@@ -1,6 +1,8 @@
 // Runs scripts of library calls from standard input and prints how many agreed with their expected answers.
 mod call;
 mod desk;
+mod level;
+mod recipe;
 mod tally;
 
 use crate::tally::Tally;
