@@ -1,9 +1,20 @@
 // The calls of a script, read from its lines.
+use crate::recipe::TableBytes;
 use history::Event;
 use history::EventId;
+use history::Label;
 use history::Wait;
 use std::alloc::AllocError;
 use std::alloc::Global;
+
+// One of the four questions of a monitor.
+#[derive(Clone, Copy)]
+pub enum Question {
+    States,
+    Start(u16),
+    Bad(u16),
+    Step(Label, u16, u16),
+}
 
 #[derive(Drop)]
 pub enum Call {
@@ -13,6 +24,11 @@ pub enum Call {
     Load(Vec<u8>),
     Reach(u8, u8),
     Precedes(EventId, EventId),
+    Table(String, TableBytes),
+    Either(String, String, String),
+    Both(String, String, String),
+    Only(String, u32, String),
+    Ask(String, Question),
     // A call that is not known here.
     Other,
     // A known call that cannot be read.
@@ -92,6 +108,70 @@ fn load(heap: Global, words: &[&str]) -> Result<Option<Call>, AllocError> {
     }
 }
 
+fn table(heap: Global, words: &[&str]) -> Result<Option<Call>, AllocError> {
+    let [name, states, initial, bad, guards, arcs] = words else {
+        return Ok(None);
+    };
+    let (Some(guards), Some(arcs)) = (bytes(heap, guards)?, bytes(heap, arcs)?) else {
+        return Ok(None);
+    };
+    let (Ok(states), Ok(initial), Ok(bad)) = (states.parse(), initial.parse(), bad.parse()) else {
+        return Ok(None);
+    };
+    let name = String::from_str(heap, name)?;
+    let table = TableBytes {
+        states,
+        initial,
+        bad,
+        guards,
+        arcs,
+    };
+    Ok(Some(Call::Table(name, table)))
+}
+
+fn combination(heap: Global, kind: &str, words: &[&str]) -> Result<Option<Call>, AllocError> {
+    let [name, first, second] = words else {
+        return Ok(None);
+    };
+    let name = String::from_str(heap, name)?;
+    let last = String::from_str(heap, second)?;
+    match kind {
+        "either" => Ok(Some(Call::Either(name, String::from_str(heap, first)?, last))),
+        "both" => Ok(Some(Call::Both(name, String::from_str(heap, first)?, last))),
+        _ => match first.parse() {
+            Ok(mask) => Ok(Some(Call::Only(name, mask, last))),
+            Err(_) => Ok(None),
+        },
+    }
+}
+
+fn read_question(kind: &str, words: &[&str]) -> Option<Question> {
+    match words {
+        [] if kind == "states" => Some(Question::States),
+        [s] if kind == "start" => Some(Question::Start(s.parse().ok()?)),
+        [s] if kind == "bad" => Some(Question::Bad(s.parse().ok()?)),
+        [station, variable, value, s, t] if kind == "step" => {
+            let event = Label {
+                station: station.parse().ok()?,
+                variable: variable.parse().ok()?,
+                value: value.parse().ok()?,
+            };
+            Some(Question::Step(event, s.parse().ok()?, t.parse().ok()?))
+        }
+        _ => None,
+    }
+}
+
+fn ask(heap: Global, kind: &str, words: &[&str]) -> Result<Option<Call>, AllocError> {
+    let [name, rest @ ..] = words else {
+        return Ok(None);
+    };
+    match read_question(kind, rest) {
+        Some(question) => Ok(Some(Call::Ask(String::from_str(heap, name)?, question))),
+        None => Ok(None),
+    }
+}
+
 // The call that a line makes.
 pub fn read(heap: Global, line: &str) -> Result<Call, AllocError> {
     let words: Vec<&str> = line.split(' ').collect(heap)?;
@@ -102,6 +182,9 @@ pub fn read(heap: Global, line: &str) -> Result<Call, AllocError> {
         "sheet" | "open" | "reach" | "precedes" => numbers(name, rest),
         "note" => note(rest),
         "load" => load(heap, rest)?,
+        "table" => table(heap, rest)?,
+        "either" | "both" | "only" => combination(heap, name, rest)?,
+        "states" | "start" | "bad" | "step" => ask(heap, name, rest)?,
         _ => return Ok(Call::Other),
     };
     Ok(call.unwrap_or(Call::Unreadable))

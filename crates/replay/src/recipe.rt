@@ -24,7 +24,13 @@ pub enum Recipe {
 
 impl TableBytes {
     pub fn fill<'a>(&'a self, table: &mut Table<'a>) -> Result<(), Refused> {
-        table.fill(self.states, self.initial, self.bad, &self.guards, &self.arcs)
+        table.fill(
+            self.states,
+            self.initial,
+            self.bad,
+            &self.guards,
+            &self.arcs,
+        )
     }
 }
 

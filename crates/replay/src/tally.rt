@@ -30,7 +30,7 @@ impl Tally {
     pub fn new(heap: Global) -> Tally {
         Tally {
             heap,
-            desk: Desk::new(),
+            desk: Desk::new(heap),
             script: String::new(heap),
             agreed: 0,
             differed: 0,
@@ -54,7 +54,7 @@ impl Tally {
     // Makes the call of a line, or begins a script.
     pub fn line(&mut self, line: &str) -> Result<(), AllocError> {
         if line.starts_with("script ") {
-            self.desk = Desk::new();
+            self.desk = Desk::new(self.heap);
             self.script = String::from_str(self.heap, line)?;
             return Ok(());
         }
