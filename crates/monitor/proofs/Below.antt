@@ -5,7 +5,7 @@ use native.Mathlib.Omega.{arith}
 use mathlib.Core.Bool.{Bool, true, false, _&&_, _||_}
 use mathlib.Core.Logic.{⊎-elim}
 use mathlib.Core.Path.{_≡_, refl, sym, ap, _∙_, subst}
-use Rattle.std.proofs.shelf.Tests.{cases-eq, and-parts, and-from, and-left, and-right, or-left, or-right}
+use Rattle.std.proofs.shelf.Tests.{cases-eq, and-parts, and-from, and-left, and-right, or-left, or-right, or-cases, true≢false}
 use Rattle.monitor.specs.Tables.{all-below, any-below}
 
 pub all-more : (n : ℕ) (p : ℕ → Bool) → all-below n p ≡ true → p n ≡ true → all-below (n + 1) p ≡ true
@@ -33,3 +33,10 @@ any-has (suc n) p k l t = ⊎-elim
     (λ (e : k ≡ n). or-right (any-below n p) (p n) (sym (ap p e) ∙ t))
     (λ ne. or-left (any-below n p) (p n) (any-has n p k (omega arith) t))
     (cases-eq k n)
+
+pub any-from : (n : ℕ) (p : ℕ → Bool) → any-below n p ≡ true → (k : ℕ) × (k < n) × (p k ≡ true)
+any-from zero p t = absurd (true≢false (sym t))
+any-from (suc n) p t = ⊎-elim
+    (λ (q : any-below n p ≡ true). let r = any-from n p q in (r .0, omega (arith, r .1), r .2))
+    (λ q. (n, omega arith, q))
+    (or-cases (any-below n p) (p n) t)

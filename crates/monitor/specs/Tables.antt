@@ -1,15 +1,18 @@
 -- Table automata: what a table describes, when it is lawful, and what it means.
-use Prim.Native.Nat.{ℕ, zero, suc, _+_, _*_, _/_, _%_, _^_}
+use Prim.Native.Nat.{ℕ, zero, suc, _+_, _*_, _/_, _%_, _^_, _<_}
 use lib.Dec.{eqb, leb, ltb}
 use lib.ListN.{length, getD}
 use mathlib.Core.Bool.{Bool, true, false, cond, _&&_, _||_}
 use mathlib.Core.List.{List, []}
+use mathlib.Core.Logic.{_⊎_}
+use mathlib.Core.Path.{_≡_}
 use Rattle.history.specs.Notes.{Answer}
 use Rattle.history.specs.declared.Label.{Label}
 use Rattle.history.specs.declared.Refusal.the-variants.{BadTable}
 use Rattle.monitor.specs.Guards.{guard-at, triggers}
 use Rattle.monitor.specs.Meanings.{Meaning}
 use Rattle.monitor.specs.declared.bytes.Arc.{Arc}
+use Rattle.std.specs.Orderings.{Decides}
 use Rattle.std.specs.declared.result.Result.the-variants.{Ok, Err}
 
 -- the number of states, the initial one, a mask with bit k for a bad state k, and the bytes of guards and arcs
@@ -81,6 +84,20 @@ table d = record {
   bad = λ s. ltb s (d .states) && eqb ((d .bad / 2 ^ s) % 2) 1;
   step = λ s e t. ltb s (d .states) && (ltb t (d .states) && moves d s e t);
 }
+
+-- an arc from s to t whose guard the event triggers
+pub record Leading-arc (d : Description) (s : ℕ) (e : Label) (t : ℕ) : Type 0 where
+  pub number : ℕ
+  pub listed : number < arc-count d
+  pub from : arc-at (d .arcs) number .from ≡ s
+  pub triggered : triggers (guard-at (d .guards) (arc-at (d .arcs) number .guard)) e ≡ true
+  pub to : arc-at (d .arcs) number .to ≡ t
+
+-- between states: an arc leads from s to t, or t is s and no arc leads from s anywhere
+abbrev pub Arc-steps : Description → Type 0
+Arc-steps d =
+    (s : ℕ) (e : Label) (t : ℕ) → s < d .states → t < d .states
+    → Decides (table d .step s e t) (Leading-arc d s e t ⊎ ((s ≡ t) × ((u : ℕ) → Leading-arc d s e u → ⊥)))
 
 -- what a new table holds: one state, which is not bad and which every event keeps
 abbrev pub idle : Description

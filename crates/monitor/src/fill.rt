@@ -5,7 +5,7 @@ ghost use mathlib.Core.Bool.{true, _&&_};
 ghost use mathlib.Core.Path.{_≡_};
 ghost use Rattle.history.specs.Notes.{placed as at-place};
 ghost use Rattle.monitor.specs.Described.{described};
-ghost use Rattle.monitor.specs.Tables.{Description, all-below, guard-lawful, arc-lawful, arc-at, states-lawful, lawful-table, fill-answer, leads, moves, table as meaning-of, idle};
+ghost use Rattle.monitor.specs.Tables.{Description, all-below, guard-lawful, arc-lawful, arc-at, states-lawful, lawful-table, fill-answer, leads, moves, table as meaning-of, idle, Arc-steps};
 ghost use Rattle.monitor.specs.Laws.{table-lawful};
 ghost use Rattle.std.specs.Results.{isErr, isOk};
 use crate::bytes::Arc;
@@ -92,6 +92,7 @@ impl<'a> Table<'a> {
     ) -> Result<(), Refused>
         ensures answer { λ r. ⌜ r ≡ at-place 0 (fill-answer (record { states = states; initial = initial; bad = bad; guards = now (guards .entry); arcs = now (arcs .entry) })) ⌝ }
         ensures filled { λ r. ⌜ (isOk r ≡ true → described (now (self .exit)) ≡ record { states = states; initial = initial; bad = bad; guards = now (guards .entry); arcs = now (arcs .entry) }) ⌝ }
+        ensures steps { λ _. ⌜ Arc-steps (described (now (self .exit))) ⌝ }
         ensures kept { λ r. ⌜ (isErr r ≡ true → now (self .exit) ≡ now (self .entry)) ⌝ }
     {
         let whole = guards.len() % GUARD == 0 && arcs.len() % ARC == 0;
