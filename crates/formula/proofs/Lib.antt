@@ -1,0 +1,4 @@
+pub mod Bits
+pub mod Satisfied
+pub mod Deserved
+pub mod FutureDriven

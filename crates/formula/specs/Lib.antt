@@ -1,0 +1,4 @@
+pub mod Formulas
+pub mod Sequences
+pub mod Automata
+pub mod Theorem
