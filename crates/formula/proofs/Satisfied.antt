@@ -62,12 +62,12 @@ decides-first g (e ∷ w) =
     , λ t. ap (triggers g) (same-some e (t .event) (t .at)) ∙ t .triggered)
 
 module _ (p : List Label → Bool) (P : List Label → Type 0) (each : (w : List Label) → Decides (p w) (P w)) where
-  decides-next : (w : List Label) → Decides (after false p w) (Next P w)
+  pub decides-next : (w : List Label) → Decides (after false p w) (Next P w)
   decides-next [] = (λ q. absurd (true≢false (sym q)), λ (l, _). absurd (omega arith))
   decides-next (e ∷ []) = (λ q. absurd (true≢false (sym q)), λ (l, _). absurd (omega arith))
   decides-next (e ∷ f ∷ w) = (λ q. (omega arith, each (f ∷ w) .0 q), λ (_, x). each (f ∷ w) .1 x)
 
-  decides-always : (w : List Label) → Decides (every p w) (Always P w)
+  pub decides-always : (w : List Label) → Decides (every p w) (Always P w)
   decides-always [] = (λ q i l. absurd (omega arith), λ _. refl)
   decides-always (e ∷ w) =
       ( λ q. all (each (e ∷ w) .0 (and-parts (p (e ∷ w)) (every p w) q .0)) (decides-always w .0 (and-parts (p (e ∷ w)) (every p w) q .1))
@@ -77,7 +77,7 @@ module _ (p : List Label → Bool) (P : List Label → Type 0) (each : (w : List
       all here later zero l = here
       all here later (suc i) l = later i (omega arith)
 
-  decides-finally : (w : List Label) → Decides (some p w) (Finally P w)
+  pub decides-finally : (w : List Label) → Decides (some p w) (Finally P w)
   decides-finally [] = (λ q. absurd (true≢false (sym q)), λ (i, l, _). absurd (omega arith))
   decides-finally (e ∷ w) =
       ( λ q. ⊎-elim
@@ -91,7 +91,7 @@ module _ (p : List Label → Bool) (P : List Label → Type 0) (each : (w : List
       back later (suc i) l x = or-right (p (e ∷ w)) (some p w) (later (i, omega arith, x))
 
   module _ (q : List Label → Bool) (Q : List Label → Type 0) (each-q : (w : List Label) → Decides (q w) (Q w)) where
-    decides-until : (w : List Label) → Decides (til p q w) (Until P Q w)
+    pub decides-until : (w : List Label) → Decides (til p q w) (Until P Q w)
     decides-until [] = (λ r. absurd (true≢false (sym r)), λ (j, l, _, _). absurd (omega arith))
     decides-until (e ∷ w) =
         ( λ r. ⊎-elim
