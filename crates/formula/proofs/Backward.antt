@@ -54,7 +54,7 @@ drop-back (suc k) w (suc i) l b =
     minus m n = omega arith
 
 -- the newest is the event at the index
-newest : (r w : List Label) (i : ℕ) → i < length w → (e : Label) × (v : List Label) × (back r w i ≡ e ∷ v) × (nth w (suc i) ≡ Some e)
+pub newest : (r w : List Label) (i : ℕ) → i < length w → (e : Label) × (v : List Label) × (back r w i ≡ e ∷ v) × (nth w (suc i) ≡ Some e)
 newest r [] i l = let z : ⊥ = omega arith in absurd z
 newest r (e ∷ w) zero l = (e, r, refl, refl)
 newest r (e ∷ w) (suc i) l = newest (e ∷ r) w i (omega arith)

@@ -4,3 +4,4 @@ pub mod Deserved
 pub mod FutureDriven
 pub mod Backward
 pub mod PastDriven
+pub mod Unfolding
