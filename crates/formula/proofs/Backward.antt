@@ -45,7 +45,7 @@ drop-back zero w i l b = ap (back [] w) (same i)
 drop-back (suc k) w zero l b = let z : ⊥ = omega arith in absurd z
 drop-back (suc k) w (suc i) l b =
     ap (λ n. drop n (back [] w (suc i))) (plus k) ∙ sym (drop-drop k 1 (back [] w (suc i)))
-      ∙ ap (drop k) (one-back [] w i l) ∙ drop-back k w i (omega arith) (omega arith) ∙ ap (back [] w) (minus i k)
+    ∙ ap (drop k) (one-back [] w i l) ∙ drop-back k w i (omega arith) (omega arith) ∙ ap (back [] w) (minus i k)
   where
     plus : (n : ℕ) → suc n ≡ 1 + n
     plus n = omega arith
@@ -61,9 +61,10 @@ newest r (e ∷ w) (suc i) l = newest (e ∷ r) w i (omega arith)
 
 decides-letter : (g : Guard) (w : List Label) (i : ℕ) → i < length w → Decides (first g (back [] w i)) (Triggered g w i)
 decides-letter g w i l =
-    let n = newest [] w i l in
-    ( λ p. record { event = n .0; at = n .3; triggered = sym (ap (first g) (n .2)) ∙ p }
-    , λ t. ap (first g) (n .2) ∙ ap (triggers g) (same-some (n .0) (t .event) (sym (n .3) ∙ t .at)) ∙ t .triggered)
+    let n = newest [] w i l in (
+      λ p. record { event = n .0; at = n .3; triggered = sym (ap (first g) (n .2)) ∙ p },
+      λ t. ap (first g) (n .2) ∙ ap (triggers g) (same-some (n .0) (t .event) (sym (n .3) ∙ t .at)) ∙ t .triggered,
+    )
 
 -- a test of what is read backward, as a fact
 abbrev Test : (List Label → Bool) → List Label → Type 0
@@ -108,12 +109,18 @@ module _ (w : List Label) (i : ℕ) (l : i < length w) where
     module _ (q : List Label → Bool) (Q : ℕ → Type 0) (each-q : (j : ℕ) → j ≤ i → Decides (q (back [] w j)) (Q j)) where
       decides-since : Decides (til p q (back [] w i)) ((j : ℕ) × (j ≤ i) × Q j × ((n : ℕ) → j < n → n ≤ i → P n))
       decides-since = decides-like _
-          (λ (k, b, x, y).
-            ( i - k , omega arith , each-q (i - k) (omega arith) .0 (to-index q k (omega (arith, long)) x)
-            , λ n less most. each n most .0 (subst (λ m. p (back [] w m) ≡ true) (again n most) (to-index p (i - n) (omega arith) (y (i - n) (omega arith))))))
-          (λ (j, b, x, y).
-            ( i - j , omega (arith, long) , from-index q j b (each-q j b .1 x)
-            , λ k less. subst (λ v. p v ≡ true) (sym (drop-back k w i l (omega arith))) (each (i - k) (omega arith) .1 (y (i - k) (omega arith) (omega arith)))))
+          (λ (k, b, x, y). (
+            i - k,
+            omega arith,
+            each-q (i - k) (omega arith) .0 (to-index q k (omega (arith, long)) x),
+            λ n less most. each n most .0 (subst (λ m. p (back [] w m) ≡ true) (again n most) (to-index p (i - n) (omega arith) (y (i - n) (omega arith)))),
+          ))
+          (λ (j, b, x, y). (
+            i - j,
+            omega (arith, long),
+            from-index q j b (each-q j b .1 x),
+            λ k less. subst (λ v. p v ≡ true) (sym (drop-back k w i l (omega arith))) (each (i - k) (omega arith) .1 (y (i - k) (omega arith) (omega arith))),
+          ))
           (decides-until p (Test p) (itself p) q (Test q) (itself q) (back [] w i))
         where
           again : (n : ℕ) → n ≤ i → i - (i - n) ≡ n
@@ -132,4 +139,4 @@ decides-at-index (Past.historically f) w i l =
     decides-historically w i l (λ v. satisfies (mirrored f) v) (Holds-at f w) (λ j b. decides-at-index f w j (omega arith))
 decides-at-index (Past.since f g) w i l =
     decides-since w i l (λ v. satisfies (mirrored f) v) (Holds-at f w) (λ j b. decides-at-index f w j (omega arith))
-      (λ v. satisfies (mirrored g) v) (Holds-at g w) (λ j b. decides-at-index g w j (omega arith))
+    (λ v. satisfies (mirrored g) v) (Holds-at g w) (λ j b. decides-at-index g w j (omega arith))

@@ -44,6 +44,6 @@ number-bits zero c l = omega arith
 number-bits (suc m) c l =
     let rest = number-bits m (c / 2) (omega (arith, l, pow-suc 2 m)) in
     ⊎-elim
-      (λ (p : c % 2 ≡ 1). omega (arith, cond-true {A = ℕ} (eqb (c % 2) 1) 1 0 (eq-eqb _ 1 p), rest))
-      (λ p. omega (arith, cond-false {A = ℕ} (eqb (c % 2) 1) 1 0 (ne-eqb _ 1 p), rest))
-      (cases-eq (c % 2) 1)
+    (λ (p : c % 2 ≡ 1). omega (arith, cond-true {A = ℕ} (eqb (c % 2) 1) 1 0 (eq-eqb _ 1 p), rest))
+    (λ p. omega (arith, cond-false {A = ℕ} (eqb (c % 2) 1) 1 0 (ne-eqb _ 1 p), rest))
+    (cases-eq (c % 2) 1)

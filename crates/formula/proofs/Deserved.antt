@@ -67,15 +67,15 @@ record Has (d : List Bool) (k : ℕ) (bs : List Bool) : Type 0 where
 
 has-left : (d : List Bool) (k : ℕ) (xs ys : List Bool) → Has d k (xs ++ ys) → Has d k xs
 has-left d k xs ys h = record
-  { front = h .front; back = ys ++ h .back; split = h .split ∙ ap (λ z. h .front ++ z) (append-assoc xs ys (h .back)); long = h .long }
+    { front = h .front; back = ys ++ h .back; split = h .split ∙ ap (λ z. h .front ++ z) (append-assoc xs ys (h .back)); long = h .long }
 
 has-right : (d : List Bool) (k n : ℕ) (xs ys : List Bool) → length xs ≡ n → Has d k (xs ++ ys) → Has d (k + n) ys
-has-right d k n xs ys l h = record
-  { front = h .front ++ xs
-  ; back = h .back
-  ; split = h .split ∙ ap (λ z. h .front ++ z) (append-assoc xs ys (h .back)) ∙ sym (append-assoc (h .front) xs (ys ++ h .back))
-  ; long = joined (h .front) xs k n (h .long) l
-  }
+has-right d k n xs ys l h = record {
+  front = h .front ++ xs;
+  back = h .back;
+  split = h .split ∙ ap (λ z. h .front ++ z) (append-assoc xs ys (h .back)) ∙ sym (append-assoc (h .front) xs (ys ++ h .back));
+  long = joined (h .front) xs k n (h .long) l;
+}
 
 has-bit : (d : List Bool) (k : ℕ) (b : Bool) → Has d k (b ∷ []) → getD d k false ≡ b
 has-bit d k b h = ap (λ z. getD z k false) (h .split) ∙ getD-at (h .front) b (h .back) false k (h .long)
@@ -112,7 +112,7 @@ module _ (e : Label) (w : List Label) (d : List Bool) where
   own-of : (f g : Future) (k : ℕ) (b : Bool) → Has d k ((deserved f w ++ deserved g w) ++ b ∷ []) → getD d (k + items f + items g) false ≡ b
   own-of f g k b h = own g (k + items f) b
       (has-right d k (items f) (deserved f w) (deserved g w ++ b ∷ []) (length-deserved f w)
-        (subst (λ z. Has d k z) (append-assoc (deserved f w) (deserved g w) (b ∷ [])) h))
+      (subst (λ z. Has d k z) (append-assoc (deserved f w) (deserved g w) (b ∷ [])) h))
 
   right : (f : Future) (k : ℕ) → Has d k (deserved f w) → Right f k e d w
   unfolding deserved

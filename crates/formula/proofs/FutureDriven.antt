@@ -76,18 +76,19 @@ module _ (f : Future) where
           sym (value-more e w) ∙ ap (λ x. value f 0 e (bits-of (items f) x)) (sym i) ∙ not-true _ (stepped zero e (suc c) p)
 
   fails-driven : (e : Label) (w : List Label) → satisfies f (e ∷ w) ≡ false → Drives (future f) (e ∷ w)
-  fails-driven e w no′ = record
-    { first = 0
-    ; last = 1 + number-of (end-bits f)
-    ; starts = refl
-    ; run = goes (steps 0 e (suc (state w)) (omega (arith, state-below w)) (state-below w) (not-from-false _ (value-more e w ∙ no′))) (state-run w)
-    ; ends-bad = eq-eqb _ _ refl
-    }
+  fails-driven e w no′ = record {
+    first = 0;
+    last = 1 + number-of (end-bits f);
+    starts = refl;
+    run = goes (steps 0 e (suc (state w)) (omega (arith, state-below w)) (state-below w) (not-from-false _ (value-more e w ∙ no′))) (state-run w);
+    ends-bad = eq-eqb _ _ refl;
+  }
 
 pub future-driven : (f : Future) → Future-driven f
-future-driven f e w =
-    ( λ d holds. true≢false (sym (decides f (e ∷ w) .1 holds) ∙ driven-fails f e w d)
-    , λ fails. fails-driven f e w (not-held (satisfies f (e ∷ w)) (λ p. fails (decides f (e ∷ w) .0 p))))
+future-driven f e w = (
+  λ d holds. true≢false (sym (decides f (e ∷ w) .1 holds) ∙ driven-fails f e w d),
+  λ fails. fails-driven f e w (not-held (satisfies f (e ∷ w)) (λ p. fails (decides f (e ∷ w) .0 p))),
+)
   where
     not-held : (b : Bool) → (b ≡ true → ⊥) → b ≡ false
     not-held true n = absurd (n refl)

@@ -5,3 +5,5 @@ pub mod FutureDriven
 pub mod Backward
 pub mod PastDriven
 pub mod Unfolding
+pub mod Reading
+pub mod Worked

@@ -9,6 +9,7 @@ use mathlib.Core.List.{List, [], _∷_}
 use mathlib.Core.Logic.{⊎-elim}
 use mathlib.Core.Path.{_≡_, refl, sym, ap, ap₂, _∙_, subst}
 use Rattle.std.proofs.shelf.Tests.{and-parts, and-from, and-left, and-right, lt-ltb, eq-eqb, eqb-true, cond-true, cond-false, cases-bool, true≢false}
+use Rattle.std.specs.Orderings.{Decides}
 use Rattle.history.specs.declared.Label.{Label}
 use Rattle.monitor.specs.Meanings.{Run, ends, goes, Drives}
 use Rattle.formula.proofs.Backward.{back, decides-at-index}
@@ -21,7 +22,7 @@ use Rattle.formula.specs.Sequences.{Holds-throughout}
 use Rattle.formula.specs.Theorem.{Past-driven}
 
 -- the line holds at every position of w, where r was read before, the newest first
-abbrev holding : Future → List Label → List Label → Bool
+abbrev pub holding : Future → List Label → List Label → Bool
 holding f r [] = true
 holding f r (e ∷ w) = satisfies f (e ∷ r) && holding f (e ∷ r) w
 
@@ -52,7 +53,7 @@ module _ (p : Past) where
   next-is e r =
       let v = values-right (mirrored p) e r in
       ap₂ (λ x y. cond x (2 + number-of y) 1) (v .one) (v .all)
-        ∙ ap (λ n. cond (satisfies (mirrored p) (e ∷ r)) n 1) (two (number-of (deserved (mirrored p) (e ∷ r))))
+      ∙ ap (λ n. cond (satisfies (mirrored p) (e ∷ r)) n 1) (two (number-of (deserved (mirrored p) (e ∷ r))))
     where
       two : (n : ℕ) → 2 + n ≡ suc (suc n)
       two n = omega arith
@@ -62,8 +63,8 @@ module _ (p : Past) where
   step-is e [] = ap (past-next (mirrored p) e) (sym (deserved-end (mirrored p))) ∙ next-is e []
   step-is e (x ∷ r) =
       ap (past-next (mirrored p) e)
-        (subst (λ m. bits-of m (number-of (deserved (mirrored p) (x ∷ r))) ≡ deserved (mirrored p) (x ∷ r)) (length-deserved (mirrored p) (x ∷ r)) (bits-number (deserved (mirrored p) (x ∷ r))))
-        ∙ next-is e (x ∷ r)
+      (subst (λ m. bits-of m (number-of (deserved (mirrored p) (x ∷ r))) ≡ deserved (mirrored p) (x ∷ r)) (length-deserved (mirrored p) (x ∷ r)) (bits-number (deserved (mirrored p) (x ∷ r))))
+      ∙ next-is e (x ∷ r)
 
   stepped : (s : ℕ) (e : Label) (t : ℕ) → past p .step s e t ≡ true → t ≡ past-step (mirrored p) s e
   stepped s e t q = eqb-true t _ (and-parts (ltb t (2 ^ items (mirrored p) + 2)) _ (and-parts (ltb s (2 ^ items (mirrored p) + 2)) _ q .1) .1)
@@ -80,10 +81,10 @@ module _ (p : Past) where
   fails-run r [] q = absurd (true≢false q)
   fails-run r (e ∷ w) q = ⊎-elim
       (λ (held : satisfies (mirrored p) (e ∷ r) ≡ true).
-        goes (steps (state r) e (state (e ∷ r)) (state-below r) (state-below (e ∷ r)) (sym (step-is e r ∙ cond-true _ _ _ held)))
-          (fails-run (e ∷ r) w (sym (ap (λ x. x && holding (mirrored p) (e ∷ r) w) held) ∙ q)))
+      goes (steps (state r) e (state (e ∷ r)) (state-below r) (state-below (e ∷ r)) (sym (step-is e r ∙ cond-true _ _ _ held)))
+      (fails-run (e ∷ r) w (sym (ap (λ x. x && holding (mirrored p) (e ∷ r) w) held) ∙ q)))
       (λ failed.
-        goes (steps (state r) e 1 (state-below r) (omega arith) (sym (step-is e r ∙ cond-false _ _ _ failed))) (failed-run w))
+      goes (steps (state r) e 1 (state-below r) (omega arith) (sym (step-is e r ∙ cond-false _ _ _ failed))) (failed-run w))
       (cases-bool (satisfies (mirrored p) (e ∷ r)))
 
   -- no state after the line held is the failed one
@@ -96,7 +97,7 @@ module _ (p : Past) where
   run-fails s t r [] z ends b = absurd (not-failed r (sym z ∙ b))
   run-fails s t r (e ∷ w) z (goes {u = u} q x) b = ⊎-elim
       (λ (held : satisfies (mirrored p) (e ∷ r) ≡ true).
-        and-right _ _ (run-fails u t (e ∷ r) w (moved ∙ cond-true _ _ _ held) x b))
+      and-right _ _ (run-fails u t (e ∷ r) w (moved ∙ cond-true _ _ _ held) x b))
       (λ failed. and-left _ _ failed)
       (cases-bool (satisfies (mirrored p) (e ∷ r)))
     where
@@ -111,10 +112,17 @@ module _ (p : Past) where
   unfolding state
   fails-driven w q = record { first = 0; last = 1; starts = refl; run = fails-run [] w q; ends-bad = refl }
 
+pub decides-throughout : (f : Past) (w : List Label) → Decides (holding (mirrored f) [] w) (Holds-throughout f w)
+decides-throughout f w = (
+  λ p i l. decides-at-index f w i l .0 (holding-at (mirrored f) [] w p i l),
+  λ held. at-holding (mirrored f) [] w (λ i l. decides-at-index f w i l .1 (held i l)),
+)
+
 pub past-driven : (f : Past) → Past-driven f
-past-driven f e w =
-    ( λ d held. true≢false (sym (at-holding (mirrored f) [] (e ∷ w) (λ i l. decides-at-index f (e ∷ w) i l .1 (held i l))) ∙ driven-fails f (e ∷ w) d)
-    , λ fails. fails-driven f (e ∷ w) (not-held (holding (mirrored f) [] (e ∷ w)) (λ p. fails (λ i l. decides-at-index f (e ∷ w) i l .0 (holding-at (mirrored f) [] (e ∷ w) p i l)))))
+past-driven f e w = (
+  λ d held. true≢false (sym (decides-throughout f (e ∷ w) .1 held) ∙ driven-fails f (e ∷ w) d),
+  λ fails. fails-driven f (e ∷ w) (not-held (holding (mirrored f) [] (e ∷ w)) (λ p. fails (decides-throughout f (e ∷ w) .0 p))),
+)
   where
     not-held : (b : Bool) → (b ≡ true → ⊥) → b ≡ false
     not-held true n = absurd (n refl)

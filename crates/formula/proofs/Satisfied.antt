@@ -57,9 +57,10 @@ satisfies (Future.release f g) w = not (til (λ v. not (satisfies f v)) (λ v. n
 
 decides-first : (g : Guard) (w : List Label) → Decides (first g w) (Triggered g w 0)
 decides-first g [] = (λ p. absurd (true≢false (sym p)), λ t. let z : _≡_ {A = ℕ} 0 1 = cc (t .at) in absurd (omega arith))
-decides-first g (e ∷ w) =
-    ( λ p. record { event = e; at = refl; triggered = p }
-    , λ t. ap (triggers g) (same-some e (t .event) (t .at)) ∙ t .triggered)
+decides-first g (e ∷ w) = (
+  λ p. record { event = e; at = refl; triggered = p },
+  λ t. ap (triggers g) (same-some e (t .event) (t .at)) ∙ t .triggered,
+)
 
 module _ (p : List Label → Bool) (P : List Label → Type 0) (each : (w : List Label) → Decides (p w) (P w)) where
   pub decides-next : (w : List Label) → Decides (after false p w) (Next P w)
@@ -69,9 +70,10 @@ module _ (p : List Label → Bool) (P : List Label → Type 0) (each : (w : List
 
   pub decides-always : (w : List Label) → Decides (every p w) (Always P w)
   decides-always [] = (λ q i l. absurd (omega arith), λ _. refl)
-  decides-always (e ∷ w) =
-      ( λ q. all (each (e ∷ w) .0 (and-parts (p (e ∷ w)) (every p w) q .0)) (decides-always w .0 (and-parts (p (e ∷ w)) (every p w) q .1))
-      , λ x. and-from _ _ (each (e ∷ w) .1 (x 0 (omega arith))) (decides-always w .1 (λ i l. x (suc i) (omega arith))))
+  decides-always (e ∷ w) = (
+    λ q. all (each (e ∷ w) .0 (and-parts (p (e ∷ w)) (every p w) q .0)) (decides-always w .0 (and-parts (p (e ∷ w)) (every p w) q .1)),
+    λ x. and-from _ _ (each (e ∷ w) .1 (x 0 (omega arith))) (decides-always w .1 (λ i l. x (suc i) (omega arith))),
+  )
     where
       all : P (e ∷ w) → Always P w → Always P (e ∷ w)
       all here later zero l = here
@@ -79,12 +81,13 @@ module _ (p : List Label → Bool) (P : List Label → Type 0) (each : (w : List
 
   pub decides-finally : (w : List Label) → Decides (some p w) (Finally P w)
   decides-finally [] = (λ q. absurd (true≢false (sym q)), λ (i, l, _). absurd (omega arith))
-  decides-finally (e ∷ w) =
-      ( λ q. ⊎-elim
-          (λ (here : p (e ∷ w) ≡ true). (0, omega arith, each (e ∷ w) .0 here))
-          (λ later. let x = decides-finally w .0 later in (suc (x .0), omega (arith, x .1), x .2))
-          (or-cases (p (e ∷ w)) (some p w) q)
-      , λ (i, l, x). back (decides-finally w .1) i l x)
+  decides-finally (e ∷ w) = (
+    λ q. ⊎-elim
+        (λ (here : p (e ∷ w) ≡ true). (0, omega arith, each (e ∷ w) .0 here))
+        (λ later. let x = decides-finally w .0 later in (suc (x .0), omega (arith, x .1), x .2))
+        (or-cases (p (e ∷ w)) (some p w) q),
+    λ (i, l, x). back (decides-finally w .1) i l x,
+  )
     where
       back : (Finally P w → some p w ≡ true) → (i : ℕ) → i < length (e ∷ w) → P (drop i (e ∷ w)) → (p (e ∷ w) || some p w) ≡ true
       back later zero l x = or-left _ _ (each (e ∷ w) .1 x)
@@ -93,14 +96,15 @@ module _ (p : List Label → Bool) (P : List Label → Type 0) (each : (w : List
   module _ (q : List Label → Bool) (Q : List Label → Type 0) (each-q : (w : List Label) → Decides (q w) (Q w)) where
     pub decides-until : (w : List Label) → Decides (til p q w) (Until P Q w)
     decides-until [] = (λ r. absurd (true≢false (sym r)), λ (j, l, _, _). absurd (omega arith))
-    decides-until (e ∷ w) =
-        ( λ r. ⊎-elim
-            (λ (here : q (e ∷ w) ≡ true). (0, omega arith, each-q (e ∷ w) .0 here, λ i l. absurd (omega arith)))
-            (λ later.
-              let parts = and-parts (p (e ∷ w)) (til p q w) later in
-              forth (each (e ∷ w) .0 (parts .0)) (decides-until w .0 (parts .1)))
-            (or-cases (q (e ∷ w)) (p (e ∷ w) && til p q w) r)
-        , λ (j, l, x, y). back (decides-until w .1) j l x y)
+    decides-until (e ∷ w) = (
+      λ r. ⊎-elim
+          (λ (here : q (e ∷ w) ≡ true). (0, omega arith, each-q (e ∷ w) .0 here, λ i l. absurd (omega arith)))
+          (λ later.
+          let parts = and-parts (p (e ∷ w)) (til p q w) later in
+          forth (each (e ∷ w) .0 (parts .0)) (decides-until w .0 (parts .1)))
+          (or-cases (q (e ∷ w)) (p (e ∷ w) && til p q w) r),
+      λ (j, l, x, y). back (decides-until w .1) j l x y,
+    )
       where
         forth : P (e ∷ w) → Until P Q w → Until P Q (e ∷ w)
         forth here (j, l, x, y) = (suc j, omega arith, x, before)
@@ -133,12 +137,12 @@ decides (Future.either f g) w = decides-or (satisfies f w) (satisfies g w) (deci
 decides (Future.next f) w = decides-next (λ v. satisfies f v) (λ v. Holds f v) (decides f) w
 decides (Future.weak-next f) w =
     decides-at _ _ (weak-is (λ v. satisfies f v) w)
-      (decides-not _ (decides-next (λ v. not (satisfies f v)) (λ v. Holds f v → ⊥) (λ v. decides-not (satisfies f v) (decides f v)) w))
+    (decides-not _ (decides-next (λ v. not (satisfies f v)) (λ v. Holds f v → ⊥) (λ v. decides-not (satisfies f v) (decides f v)) w))
 decides (Future.always f) w = decides-always (λ v. satisfies f v) (λ v. Holds f v) (decides f) w
 decides (Future.finally f) w = decides-finally (λ v. satisfies f v) (λ v. Holds f v) (decides f) w
 decides (Future.until f g) w =
     decides-until (λ v. satisfies f v) (λ v. Holds f v) (decides f) (λ v. satisfies g v) (λ v. Holds g v) (decides g) w
 decides (Future.release f g) w =
     decides-not _ (decides-until
-      (λ v. not (satisfies f v)) (λ v. Holds f v → ⊥) (λ v. decides-not (satisfies f v) (decides f v))
-      (λ v. not (satisfies g v)) (λ v. Holds g v → ⊥) (λ v. decides-not (satisfies g v) (decides g v)) w)
+    (λ v. not (satisfies f v)) (λ v. Holds f v → ⊥) (λ v. decides-not (satisfies f v) (decides f v))
+    (λ v. not (satisfies g v)) (λ v. Holds g v → ⊥) (λ v. decides-not (satisfies g v) (decides g v)) w)

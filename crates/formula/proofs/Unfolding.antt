@@ -13,14 +13,16 @@ use Rattle.formula.specs.Laws.{Same, Same-at, Future-laws, Past-laws, Formula-
 
 -- formulas that are decided alike hold alike
 same : (f g : Future) → ((e : Label) (w : List Label) → satisfies f (e ∷ w) ≡ satisfies g (e ∷ w)) → Same f g
-same f g alike e w =
-    ( λ h. decides g (e ∷ w) .0 (sym (alike e w) ∙ decides f (e ∷ w) .1 h)
-    , λ h. decides f (e ∷ w) .0 (alike e w ∙ decides g (e ∷ w) .1 h))
+same f g alike e w = (
+  λ h. decides g (e ∷ w) .0 (sym (alike e w) ∙ decides f (e ∷ w) .1 h),
+  λ h. decides f (e ∷ w) .0 (alike e w ∙ decides g (e ∷ w) .1 h),
+)
 
 same-at : (f g : Past) → ((e : Label) (w : List Label) → satisfies (mirrored f) (e ∷ w) ≡ satisfies (mirrored g) (e ∷ w)) → Same-at f g
-same-at f g alike w i l =
-    ( λ h. decides-at-index g w i l .0 (sym here ∙ decides-at-index f w i l .1 h)
-    , λ h. decides-at-index f w i l .0 (here ∙ decides-at-index g w i l .1 h))
+same-at f g alike w i l = (
+  λ h. decides-at-index g w i l .0 (sym here ∙ decides-at-index f w i l .1 h),
+  λ h. decides-at-index f w i l .0 (here ∙ decides-at-index g w i l .1 h),
+)
   where
     here : satisfies (mirrored f) (back [] w i) ≡ satisfies (mirrored g) (back [] w i)
     here =
@@ -61,25 +63,25 @@ module _ (p q : List Label → Bool) where
   weaker (e ∷ w) = refl
 
 future-laws : (f g : Future) → Future-laws f g
-future-laws f g = record
-  { until-unfolds = same (Future.until f g) (Future.either g (Future.both f (Future.next (Future.until f g)))) (λ e w. ap (λ x. satisfies g (e ∷ w) || (satisfies f (e ∷ w) && x)) (sym (rest-same false (λ v. satisfies (Future.until f g) v) refl w)))
-  ; release-unfolds = same (Future.release f g) (Future.both g (Future.either f (Future.weak-next (Future.release f g)))) (λ e w.
+future-laws f g = record {
+  until-unfolds = same (Future.until f g) (Future.either g (Future.both f (Future.next (Future.until f g)))) (λ e w. ap (λ x. satisfies g (e ∷ w) || (satisfies f (e ∷ w) && x)) (sym (rest-same false (λ v. satisfies (Future.until f g) v) refl w)));
+  release-unfolds = same (Future.release f g) (Future.both g (Future.either f (Future.weak-next (Future.release f g)))) (λ e w.
       dual (λ v. satisfies f v) (λ v. satisfies g v) (satisfies g (e ∷ w)) (satisfies f (e ∷ w)) _
-        ∙ ap (λ x. satisfies g (e ∷ w) && (satisfies f (e ∷ w) || x)) (sym (rest-same true (λ v. satisfies (Future.release f g) v) refl w)))
-  ; always-unfolds = same (Future.always f) (Future.both f (Future.weak-next (Future.always f))) (λ e w. ap (λ x. satisfies f (e ∷ w) && x) (sym (rest-same true (λ v. satisfies (Future.always f) v) refl w)))
-  ; finally-unfolds = same (Future.finally f) (Future.either f (Future.next (Future.finally f))) (λ e w. ap (λ x. satisfies f (e ∷ w) || x) (sym (rest-same false (λ v. satisfies (Future.finally f) v) refl w)))
-  ; not-next = same (Future.negated (Future.next f)) (Future.weak-next (Future.negated f)) (λ e w. weaker (λ v. satisfies f v) (λ v. satisfies g v) w)
-  ; not-until = same (Future.negated (Future.until f g)) (Future.release (Future.negated f) (Future.negated g)) (λ e w. ap not (sym (til-twice (λ v. satisfies f v) (λ v. satisfies g v) (e ∷ w))))
-  ; not-finally = same (Future.negated (Future.finally f)) (Future.always (Future.negated f)) (λ e w. none-of (λ v. satisfies f v) (λ v. satisfies g v) (e ∷ w))
-  }
+      ∙ ap (λ x. satisfies g (e ∷ w) && (satisfies f (e ∷ w) || x)) (sym (rest-same true (λ v. satisfies (Future.release f g) v) refl w)));
+  always-unfolds = same (Future.always f) (Future.both f (Future.weak-next (Future.always f))) (λ e w. ap (λ x. satisfies f (e ∷ w) && x) (sym (rest-same true (λ v. satisfies (Future.always f) v) refl w)));
+  finally-unfolds = same (Future.finally f) (Future.either f (Future.next (Future.finally f))) (λ e w. ap (λ x. satisfies f (e ∷ w) || x) (sym (rest-same false (λ v. satisfies (Future.finally f) v) refl w)));
+  not-next = same (Future.negated (Future.next f)) (Future.weak-next (Future.negated f)) (λ e w. weaker (λ v. satisfies f v) (λ v. satisfies g v) w);
+  not-until = same (Future.negated (Future.until f g)) (Future.release (Future.negated f) (Future.negated g)) (λ e w. ap not (sym (til-twice (λ v. satisfies f v) (λ v. satisfies g v) (e ∷ w))));
+  not-finally = same (Future.negated (Future.finally f)) (Future.always (Future.negated f)) (λ e w. none-of (λ v. satisfies f v) (λ v. satisfies g v) (e ∷ w));
+}
 
 past-laws : (f g : Past) → Past-laws f g
-past-laws f g = record
-  { since-unfolds = same-at (Past.since f g) (Past.either g (Past.both f (Past.previous (Past.since f g)))) (λ e w.
-      ap (λ x. satisfies (mirrored g) (e ∷ w) || (satisfies (mirrored f) (e ∷ w) && x)) (sym (rest-same false (λ v. satisfies (mirrored (Past.since f g)) v) refl w)))
-  ; once-unfolds = same-at (Past.once f) (Past.either f (Past.previous (Past.once f))) (λ e w.
-      ap (λ x. satisfies (mirrored f) (e ∷ w) || x) (sym (rest-same false (λ v. satisfies (mirrored (Past.once f)) v) refl w)))
-  }
+past-laws f g = record {
+  since-unfolds = same-at (Past.since f g) (Past.either g (Past.both f (Past.previous (Past.since f g)))) (λ e w.
+      ap (λ x. satisfies (mirrored g) (e ∷ w) || (satisfies (mirrored f) (e ∷ w) && x)) (sym (rest-same false (λ v. satisfies (mirrored (Past.since f g)) v) refl w)));
+  once-unfolds = same-at (Past.once f) (Past.either f (Past.previous (Past.once f))) (λ e w.
+      ap (λ x. satisfies (mirrored f) (e ∷ w) || x) (sym (rest-same false (λ v. satisfies (mirrored (Past.once f)) v) refl w)));
+}
 
 pub formula-laws : Formula-laws
 formula-laws = (future-laws, past-laws)

@@ -71,12 +71,12 @@ future-step f (suc c) e (suc d) = eqb (number-of (values f 0 e (bits-of (items f
 abbrev pub future : Future → Meaning
 future f =
     let n : ℕ = 2 ^ items f + 1 in
-    record
-      { states = n
-      ; start = λ s. eqb s 0
-      ; bad = λ s. eqb s (1 + number-of (end-bits f))
-      ; step = λ s e t. ltb s n && (ltb t n && future-step f s e t)
-      }
+    record {
+      states = n;
+      start = λ s. eqb s 0;
+      bad = λ s. eqb s (1 + number-of (end-bits f));
+      step = λ s e t. ltb s n && (ltb t n && future-step f s e t);
+    }
 
 -- A past formula's values are worked out from the bits of the position before just as a future formula's from those of the
 -- position after: previous as next, once as finally, historically as always, since as until.
@@ -105,9 +105,9 @@ abbrev pub past : Past → Meaning
 past p =
     let f : Future = mirrored p in
     let n : ℕ = 2 ^ items f + 2 in
-    record
-      { states = n
-      ; start = λ s. eqb s 0
-      ; bad = λ s. eqb s 1
-      ; step = λ s e t. ltb s n && (ltb t n && eqb t (past-step f s e))
-      }
+    record {
+      states = n;
+      start = λ s. eqb s 0;
+      bad = λ s. eqb s 1;
+      step = λ s e t. ltb s n && (ltb t n && eqb t (past-step f s e));
+    }

@@ -4,3 +4,4 @@ pub mod Automata
 pub mod Theorem
 pub mod Lines
 pub mod Laws
+pub mod Examples
