@@ -37,7 +37,7 @@ pub run-counts : {h : History} {c d : Cut} {o : List ℕ} → Run h c o d → (t
 run-counts (stop p) t = omega (arith, p t)
 run-counts (step {s = s} a r) t = omega (arith, run-counts r t)
 
-regroup : (x y z : ℕ) → x + (y + z) ≡ (x + y) + z
+pub regroup : (x y z : ℕ) → x + (y + z) ≡ (x + y) + z
 regroup x y z = omega arith
 
 -- what each position of a run awaits is done before it

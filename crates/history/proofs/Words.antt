@@ -6,6 +6,7 @@ use lib.ListN.{length, getD, take}
 use mathlib.Core.List.{List, [], _∷_}
 use mathlib.Core.Path.{_≡_, refl, sym, ap, _∙_}
 use Rattle.std.specs.declared.option.Option.the-variants.{Some}
+use Rattle.history.proofs.Runs.{regroup}
 use Rattle.history.specs.Cuts.{Cut, nothing-done, advance}
 use Rattle.history.specs.Histories.{History, nth}
 use Rattle.history.specs.Orders.{one-if, occurs}
@@ -21,10 +22,7 @@ labels-at h c [] i l = let z : ⊥ = omega arith in absurd z
 labels-at h c (s ∷ o) zero l = ap (λ n. Some (label h s (suc n))) (sym (add-zero (c s)))
 labels-at h c (s ∷ o) (suc i) l =
     labels-at h (advance c s) o i (omega arith)
-    ∙ ap (λ n. Some (label h (getD o i 0) (suc n))) (regroup (c (getD o i 0)) (one-if s (getD o i 0)) (occurs (getD o i 0) (take i o)))
-  where
-    regroup : (x y z : ℕ) → (x + y) + z ≡ x + (y + z)
-    regroup x y z = omega arith
+    ∙ ap (λ n. Some (label h (getD o i 0) (suc n))) (sym (regroup (c (getD o i 0)) (one-if s (getD o i 0)) (occurs (getD o i 0) (take i o))))
 
 pub words-follow : Words-follow
 words-follow h o = record {
