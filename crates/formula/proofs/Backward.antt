@@ -77,6 +77,9 @@ module _ (w : List Label) (i : ℕ) (l : i < length w) where
   long : length (back [] w i) ≡ suc i
   long = omega (arith, length-back [] w i l)
 
+  again : (j : ℕ) → j ≤ i → i - (i - j) ≡ j
+  again j b = omega arith
+
   -- k positions back from the index
   to-index : (p : List Label → Bool) (k : ℕ) → k ≤ i → p (drop k (back [] w i)) ≡ true → p (back [] w (i - k)) ≡ true
   to-index p k b q = subst (λ v. p v ≡ true) (drop-back k w i l b) q
@@ -102,9 +105,6 @@ module _ (w : List Label) (i : ℕ) (l : i < length w) where
         (λ all j b. each j b .0 (subst (λ n. p (back [] w n) ≡ true) (again j b) (to-index p (i - j) (omega arith) (all (i - j) (omega (arith, long))))))
         (λ all k b. subst (λ v. p v ≡ true) (sym (drop-back k w i l (omega (arith, long)))) (each (i - k) (omega arith) .1 (all (i - k) (omega arith))))
         (decides-always p (Test p) (itself p) (back [] w i))
-      where
-        again : (j : ℕ) → j ≤ i → i - (i - j) ≡ j
-        again j b = omega arith
 
     module _ (q : List Label → Bool) (Q : ℕ → Type 0) (each-q : (j : ℕ) → j ≤ i → Decides (q (back [] w j)) (Q j)) where
       decides-since : Decides (til p q (back [] w i)) ((j : ℕ) × (j ≤ i) × Q j × ((n : ℕ) → j < n → n ≤ i → P n))
@@ -122,9 +122,6 @@ module _ (w : List Label) (i : ℕ) (l : i < length w) where
             λ k less. subst (λ v. p v ≡ true) (sym (drop-back k w i l (omega arith))) (each (i - k) (omega arith) .1 (y (i - k) (omega arith) (omega arith))),
           ))
           (decides-until p (Test p) (itself p) q (Test q) (itself q) (back [] w i))
-        where
-          again : (n : ℕ) → n ≤ i → i - (i - n) ≡ n
-          again n b = omega arith
 
 pub decides-at-index : (f : Past) (w : List Label) (i : ℕ) → i < length w → Decides (satisfies (mirrored f) (back [] w i)) (Holds-at f w i)
 decides-at-index (Past.letter g) w i l = decides-letter g w i l

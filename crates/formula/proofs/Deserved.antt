@@ -80,7 +80,8 @@ has-right d k n xs ys l h = record {
 has-bit : (d : List Bool) (k : ℕ) (b : Bool) → Has d k (b ∷ []) → getD d k false ≡ b
 has-bit d k b h = ap (λ z. getD z k false) (h .split) ∙ getD-at (h .front) b (h .back) false k (h .long)
 
-dual : (x y z : Bool) → (x && (y || not z)) ≡ not (not x || (not y && z))
+-- not (not x or (not y and z))
+pub dual : (x y z : Bool) → (x && (y || not z)) ≡ not (not x || (not y && z))
 dual true true z = refl
 dual true false true = refl
 dual true false false = refl

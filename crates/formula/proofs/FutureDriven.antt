@@ -12,7 +12,7 @@ use Rattle.history.specs.declared.Label.{Label}
 use Rattle.monitor.specs.Meanings.{Run, ends, goes, Drives}
 use Rattle.formula.proofs.Bits.{bits-number, number-below}
 use Rattle.formula.proofs.Deserved.{deserved, length-deserved, deserved-end, values-right}
-use Rattle.formula.proofs.Satisfied.{satisfies, decides}
+use Rattle.formula.proofs.Satisfied.{satisfies, decides, not-held}
 use Rattle.formula.specs.Automata.{number-of, bits-of, value, values, end-bits, future-step, future}
 use Rattle.formula.specs.Formulas.{Future, items}
 use Rattle.formula.specs.Sequences.{Holds}
@@ -89,7 +89,3 @@ future-driven f e w = (
   λ d holds. true≢false (sym (decides f (e ∷ w) .1 holds) ∙ driven-fails f e w d),
   λ fails. fails-driven f e w (not-held (satisfies f (e ∷ w)) (λ p. fails (decides f (e ∷ w) .0 p))),
 )
-  where
-    not-held : (b : Bool) → (b ≡ true → ⊥) → b ≡ false
-    not-held true n = absurd (n refl)
-    not-held false n = refl

@@ -15,7 +15,7 @@ use Rattle.monitor.specs.Meanings.{Run, ends, goes, Drives}
 use Rattle.formula.proofs.Backward.{back, decides-at-index}
 use Rattle.formula.proofs.Bits.{bits-number, number-below}
 use Rattle.formula.proofs.Deserved.{deserved, length-deserved, deserved-end, values-right}
-use Rattle.formula.proofs.Satisfied.{satisfies}
+use Rattle.formula.proofs.Satisfied.{satisfies, not-held}
 use Rattle.formula.specs.Automata.{number-of, bits-of, value, values, end-bits, mirrored, past-next, past-step, past}
 use Rattle.formula.specs.Formulas.{Future, Past, items}
 use Rattle.formula.specs.Sequences.{Holds-throughout}
@@ -123,7 +123,3 @@ past-driven f e w = (
   λ d held. true≢false (sym (decides-throughout f (e ∷ w) .1 held) ∙ driven-fails f (e ∷ w) d),
   λ fails. fails-driven f (e ∷ w) (not-held (holding (mirrored f) [] (e ∷ w)) (λ p. fails (decides-throughout f (e ∷ w) .0 p))),
 )
-  where
-    not-held : (b : Bool) → (b ≡ true → ⊥) → b ≡ false
-    not-held true n = absurd (n refl)
-    not-held false n = refl

@@ -119,15 +119,19 @@ module _ (p : List Label → Bool) (P : List Label → Type 0) (each : (w : List
         back later (suc j) l x y =
             or-right (q (e ∷ w)) _ (and-from _ _ (each (e ∷ w) .1 (y 0 (omega arith))) (later (j, omega arith, x, λ i b. y (suc i) (omega arith))))
 
+pub twice : (x : Bool) → not (not x) ≡ x
+twice true = refl
+twice false = refl
+
+pub not-held : (x : Bool) → (x ≡ true → ⊥) → x ≡ false
+not-held true n = absurd (n refl)
+not-held false n = refl
+
 -- weak next is not next not
 weak-is : (p : List Label → Bool) (w : List Label) → after true p w ≡ not (after false (λ v. not (p v)) w)
 weak-is p [] = refl
 weak-is p (e ∷ []) = refl
-weak-is p (e ∷ f ∷ w) = twice (p (f ∷ w))
-  where
-    twice : (b : Bool) → b ≡ not (not b)
-    twice true = refl
-    twice false = refl
+weak-is p (e ∷ f ∷ w) = sym (twice (p (f ∷ w)))
 
 pub decides : (f : Future) (w : List Label) → Decides (satisfies f w) (Holds f w)
 decides (Future.letter g) w = decides-first g w

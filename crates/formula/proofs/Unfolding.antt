@@ -6,7 +6,8 @@ use mathlib.Core.List.{List, [], _∷_}
 use mathlib.Core.Path.{_≡_, refl, sym, ap, ap₂, _∙_}
 use Rattle.history.specs.declared.Label.{Label}
 use Rattle.formula.proofs.Backward.{back, newest, decides-at-index}
-use Rattle.formula.proofs.Satisfied.{satisfies, rest, after, every, some, til, decides}
+use Rattle.formula.proofs.Deserved.{dual}
+use Rattle.formula.proofs.Satisfied.{satisfies, rest, every, some, til, decides, twice}
 use Rattle.formula.specs.Automata.{mirrored}
 use Rattle.formula.specs.Formulas.{Future, Past}
 use Rattle.formula.specs.Laws.{Same, Same-at, Future-laws, Past-laws, Formula-laws}
@@ -35,16 +36,6 @@ rest-same end p q [] = sym q
 rest-same end p q (e ∷ w) = refl
 
 module _ (p q : List Label → Bool) where
-  dual : (x y z : Bool) → not (not x || (not y && z)) ≡ (x && (y || not z))
-  dual true true z = refl
-  dual true false true = refl
-  dual true false false = refl
-  dual false y z = refl
-
-  twice : (x : Bool) → not (not x) ≡ x
-  twice true = refl
-  twice false = refl
-
   -- until with its tests negated twice
   til-twice : (w : List Label) → til (λ v. not (not (p v))) (λ v. not (not (q v))) w ≡ til p q w
   til-twice [] = refl
@@ -66,7 +57,7 @@ future-laws : (f g : Future) → Future-laws f g
 future-laws f g = record {
   until-unfolds = same (Future.until f g) (Future.either g (Future.both f (Future.next (Future.until f g)))) (λ e w. ap (λ x. satisfies g (e ∷ w) || (satisfies f (e ∷ w) && x)) (sym (rest-same false (λ v. satisfies (Future.until f g) v) refl w)));
   release-unfolds = same (Future.release f g) (Future.both g (Future.either f (Future.weak-next (Future.release f g)))) (λ e w.
-      dual (λ v. satisfies f v) (λ v. satisfies g v) (satisfies g (e ∷ w)) (satisfies f (e ∷ w)) _
+      sym (dual (satisfies g (e ∷ w)) (satisfies f (e ∷ w)) _)
       ∙ ap (λ x. satisfies g (e ∷ w) && (satisfies f (e ∷ w) || x)) (sym (rest-same true (λ v. satisfies (Future.release f g) v) refl w)));
   always-unfolds = same (Future.always f) (Future.both f (Future.weak-next (Future.always f))) (λ e w. ap (λ x. satisfies f (e ∷ w) && x) (sym (rest-same true (λ v. satisfies (Future.always f) v) refl w)));
   finally-unfolds = same (Future.finally f) (Future.either f (Future.next (Future.finally f))) (λ e w. ap (λ x. satisfies f (e ∷ w) || x) (sym (rest-same false (λ v. satisfies (Future.finally f) v) refl w)));

@@ -33,6 +33,9 @@ module _ (a b : Meaning) (la : Lawful a) (lb : Lawful b) (in-limit : Within (a .
   right-step : (s : ℕ) (e : Label) (t : ℕ) → a .states ≤ s → either a b .step s e t ≡ true → (a .states ≤ t) × (b .step (s - a .states) e (t - a .states) ≡ true)
   right-step s e t l p = (grind (arith, tells), grind (arith, tells))
 
+  back : (k : ℕ) → (a .states + k) - a .states ≡ k
+  back k = omega arith
+
   -- a step of B's, wherever its states stand in the combination
   step-right : (s : ℕ) (e : Label) (t : ℕ) → b .step s e t ≡ true → either a b .step (a .states + s) e (a .states + t) ≡ true
   step-right s e t p =
@@ -42,9 +45,6 @@ module _ (a b : Meaning) (la : Lawful a) (lb : Lawful b) (in-limit : Within (a .
       let p′ : b .step ((a .states + s) - a .states) e ((a .states + t) - a .states) ≡ true =
       subst (λ i. b .step i e ((a .states + t) - a .states) ≡ true) (sym (back s)) (subst (λ i. b .step s e i ≡ true) (sym (back t)) p) in
       grind (arith, tells)
-    where
-      back : (k : ℕ) → (a .states + k) - a .states ≡ k
-      back k = omega arith
 
   run-left : {s t : ℕ} {w : List Label} → s < a .states → Run (either a b) s w t → Run a s w t × (t < a .states)
   run-left l ends = (ends, l)
@@ -104,9 +104,6 @@ module _ (a b : Meaning) (la : Lawful a) (lb : Lawful b) (in-limit : Within (a .
           let n = size in
           let p′ : f ((a .states + k) - a .states) ≡ true = subst (λ i. f i ≡ true) (sym (back k)) p in
           grind (arith, tells)
-        where
-          back : (j : ℕ) → (a .states + j) - a .states ≡ j
-          back j = omega arith
 
 -- beyond the limit there is no state to start from
 pub beyond-none : (m n k s : ℕ) (rest : Bool) → (Within m n k → ⊥) → (ltb s (limited m n k) && rest) ≡ true → ⊥
