@@ -17,18 +17,29 @@ pub enum Question {
 }
 
 #[derive(Drop)]
-pub enum Call {
-    Sheet(u8),
+pub enum SheetCall {
+    Choose(u8),
     Open(u8),
     Note(u8, Event),
     Load(Vec<u8>),
     Reach(u8, u8),
     Precedes(EventId, EventId),
-    Table(String, TableBytes),
-    Either(String, String, String),
-    Both(String, String, String),
-    Only(String, u32, String),
-    Ask(String, Question),
+}
+
+// A call on the monitor of a name.
+#[derive(Drop)]
+pub enum MonitorCall {
+    Table(TableBytes),
+    Either(String, String),
+    Both(String, String),
+    Only(u32, String),
+    Ask(Question),
+}
+
+#[derive(Drop)]
+pub enum Call {
+    Sheet(SheetCall),
+    Monitor(String, MonitorCall),
     // A call that is not known here.
     Other,
     // A known call that cannot be read.
@@ -61,7 +72,7 @@ fn bytes(heap: Global, text: &str) -> Result<Option<Vec<u8>>, AllocError> {
     Ok(Some(all))
 }
 
-fn note(words: &[&str]) -> Option<Call> {
+fn note(words: &[&str]) -> Option<SheetCall> {
     let [station, variable, value, awaited, count] = words else {
         return None;
     };
@@ -74,7 +85,7 @@ fn note(words: &[&str]) -> Option<Call> {
         value: value.parse().ok()?,
         wait,
     };
-    Some(Call::Note(station.parse().ok()?, event))
+    Some(SheetCall::Note(station.parse().ok()?, event))
 }
 
 fn event(station: &str, number: &str) -> Option<EventId> {
@@ -84,32 +95,32 @@ fn event(station: &str, number: &str) -> Option<EventId> {
     })
 }
 
-fn reach(event: EventId) -> Call {
-    Call::Reach(event.station, event.number)
+fn reach(event: EventId) -> SheetCall {
+    SheetCall::Reach(event.station, event.number)
 }
 
-fn numbers(name: &str, words: &[&str]) -> Option<Call> {
+fn numbers(name: &str, words: &[&str]) -> Option<SheetCall> {
     match words {
-        [n] if name == "sheet" => Some(Call::Sheet(n.parse().ok()?)),
-        [n] if name == "open" => Some(Call::Open(n.parse().ok()?)),
+        [n] if name == "sheet" => Some(SheetCall::Choose(n.parse().ok()?)),
+        [n] if name == "open" => Some(SheetCall::Open(n.parse().ok()?)),
         [s, n] if name == "reach" => Some(reach(event(s, n)?)),
-        [s, n, t, k] if name == "precedes" => Some(Call::Precedes(event(s, n)?, event(t, k)?)),
+        [s, n, t, k] if name == "precedes" => Some(SheetCall::Precedes(event(s, n)?, event(t, k)?)),
         _ => None,
     }
 }
 
-fn load(heap: Global, words: &[&str]) -> Result<Option<Call>, AllocError> {
+fn load(heap: Global, words: &[&str]) -> Result<Option<SheetCall>, AllocError> {
     let [file] = words else {
         return Ok(None);
     };
     match bytes(heap, file)? {
-        Some(file) => Ok(Some(Call::Load(file))),
+        Some(file) => Ok(Some(SheetCall::Load(file))),
         None => Ok(None),
     }
 }
 
-fn table(heap: Global, words: &[&str]) -> Result<Option<Call>, AllocError> {
-    let [name, states, initial, bad, guards, arcs] = words else {
+fn table(heap: Global, words: &[&str]) -> Result<Option<MonitorCall>, AllocError> {
+    let [states, initial, bad, guards, arcs] = words else {
         return Ok(None);
     };
     let (Some(guards), Some(arcs)) = (bytes(heap, guards)?, bytes(heap, arcs)?) else {
@@ -118,28 +129,29 @@ fn table(heap: Global, words: &[&str]) -> Result<Option<Call>, AllocError> {
     let (Ok(states), Ok(initial), Ok(bad)) = (states.parse(), initial.parse(), bad.parse()) else {
         return Ok(None);
     };
-    let name = String::from_str(heap, name)?;
-    let table = TableBytes {
+    Ok(Some(MonitorCall::Table(TableBytes {
         states,
         initial,
         bad,
         guards,
         arcs,
-    };
-    Ok(Some(Call::Table(name, table)))
+    })))
 }
 
-fn combination(heap: Global, kind: &str, words: &[&str]) -> Result<Option<Call>, AllocError> {
-    let [name, first, second] = words else {
+fn combination(
+    heap: Global,
+    kind: &str,
+    words: &[&str],
+) -> Result<Option<MonitorCall>, AllocError> {
+    let [first, second] = words else {
         return Ok(None);
     };
-    let name = String::from_str(heap, name)?;
     let last = String::from_str(heap, second)?;
     match kind {
-        "either" => Ok(Some(Call::Either(name, String::from_str(heap, first)?, last))),
-        "both" => Ok(Some(Call::Both(name, String::from_str(heap, first)?, last))),
+        "either" => Ok(Some(MonitorCall::Either(String::from_str(heap, first)?, last))),
+        "both" => Ok(Some(MonitorCall::Both(String::from_str(heap, first)?, last))),
         _ => match first.parse() {
-            Ok(mask) => Ok(Some(Call::Only(name, mask, last))),
+            Ok(mask) => Ok(Some(MonitorCall::Only(mask, last))),
             Err(_) => Ok(None),
         },
     }
@@ -162,13 +174,35 @@ fn read_question(kind: &str, words: &[&str]) -> Option<Question> {
     }
 }
 
-fn ask(heap: Global, kind: &str, words: &[&str]) -> Result<Option<Call>, AllocError> {
-    let [name, rest @ ..] = words else {
-        return Ok(None);
+// The call on a sheet that the words make, if its name is one of those.
+fn on_sheet(heap: Global, name: &str, words: &[&str]) -> Result<Call, AllocError> {
+    let call = match name {
+        "note" => note(words),
+        "load" => load(heap, words)?,
+        _ => numbers(name, words),
     };
-    match read_question(kind, rest) {
-        Some(question) => Ok(Some(Call::Ask(String::from_str(heap, name)?, question))),
-        None => Ok(None),
+    match call {
+        Some(call) => Ok(Call::Sheet(call)),
+        None => Ok(Call::Unreadable),
+    }
+}
+
+// The call on a monitor, whose name is the first of the words.
+fn on_monitor(heap: Global, kind: &str, words: &[&str]) -> Result<Call, AllocError> {
+    let [name, rest @ ..] = words else {
+        return Ok(Call::Unreadable);
+    };
+    let call = match kind {
+        "table" => table(heap, rest)?,
+        "either" | "both" | "only" => combination(heap, kind, rest)?,
+        _ => match read_question(kind, rest) {
+            Some(question) => Some(MonitorCall::Ask(question)),
+            None => None,
+        },
+    };
+    match call {
+        Some(call) => Ok(Call::Monitor(String::from_str(heap, name)?, call)),
+        None => Ok(Call::Unreadable),
     }
 }
 
@@ -178,14 +212,13 @@ pub fn read(heap: Global, line: &str) -> Result<Call, AllocError> {
     let [name, rest @ ..] = words.as_slice() else {
         return Ok(Call::Other);
     };
-    let call = match *name {
-        "sheet" | "open" | "reach" | "precedes" => numbers(name, rest),
-        "note" => note(rest),
-        "load" => load(heap, rest)?,
-        "table" => table(heap, rest)?,
-        "either" | "both" | "only" => combination(heap, name, rest)?,
-        "states" | "start" | "bad" | "step" => ask(heap, name, rest)?,
-        _ => return Ok(Call::Other),
-    };
-    Ok(call.unwrap_or(Call::Unreadable))
+    match *name {
+        "sheet" | "open" | "note" | "load" | "reach" | "precedes" => on_sheet(heap, name, rest),
+        "table" | "either" | "both" | "only" | "states" | "start" | "bad" | "step" => on_monitor(
+            heap,
+            name,
+            rest,
+        ),
+        _ => Ok(Call::Other),
+    }
 }

@@ -2,6 +2,7 @@
 mod call;
 mod desk;
 mod level;
+mod rack;
 mod recipe;
 mod tally;
 

@@ -1,6 +1,8 @@
 // How many calls of the scripts agreed with what was expected.
 use crate::call;
+use crate::call::Call;
 use crate::desk::Desk;
+use crate::rack::Rack;
 use std::alloc::AllocError;
 use std::alloc::Global;
 
@@ -8,6 +10,7 @@ use std::alloc::Global;
 pub struct Tally {
     heap: Global,
     desk: Desk,
+    rack: Rack,
     script: String,
     agreed: u64,
     differed: u64,
@@ -30,7 +33,8 @@ impl Tally {
     pub fn new(heap: Global) -> Tally {
         Tally {
             heap,
-            desk: Desk::new(heap),
+            desk: Desk::new(),
+            rack: Rack::new(heap),
             script: String::new(heap),
             agreed: 0,
             differed: 0,
@@ -51,17 +55,28 @@ impl Tally {
         Ok(())
     }
 
+    // What a call answers; none where it is not known here.
+    fn answer(&mut self, call: &str) -> Result<Option<String>, AllocError> {
+        match call::read(self.heap, call)? {
+            Call::Sheet(call) => Ok(Some(self.desk.answer(self.heap, call)?)),
+            Call::Monitor(name, call) => self.rack.answer(self.heap, name, call),
+            Call::Unreadable => Ok(Some(String::from_str(self.heap, "unreadable")?)),
+            Call::Other => Ok(None),
+        }
+    }
+
     // Makes the call of a line, or begins a script.
     pub fn line(&mut self, line: &str) -> Result<(), AllocError> {
         if line.starts_with("script ") {
-            self.desk = Desk::new(self.heap);
+            self.desk = Desk::new();
+            self.rack = Rack::new(self.heap);
             self.script = String::from_str(self.heap, line)?;
             return Ok(());
         }
         let Some((call, expected)) = line.split_once(" = ") else {
             return Ok(());
         };
-        match self.desk.answer(self.heap, call::read(self.heap, call)?)? {
+        match self.answer(call)? {
             Some(found) => self.compare(call, expected, found.as_str()),
             None => {
                 self.passed_over = self.passed_over.saturating_add(1);
