@@ -24,6 +24,12 @@ abbrev one-if : Bool → ℕ
 one-if true = 1
 one-if false = 0
 
+-- an item that was taken
+pub went-on : {X : Type 0} (place : ℕ) (a : Result (Reading X) Refusal) (next : Reading X → Result X Refused) (x : X) → go-on place a next ≡ Ok x
+    → (s : Reading X) × (a ≡ Ok s) × (next s ≡ Ok x)
+went-on place (Ok s) next x q = (s, refl, q)
+went-on place (Err why) next x q = let w : _≡_ {A = ℕ} 0 1 = cc in absurd (omega arith)
+
 module _ {X : Type 0} (size : X → ℕ) where
   -- the item adds to the size what it counts
   abbrev Counts : Item X → Type 0
@@ -80,11 +86,6 @@ module _ {X : Type 0} (size : X → ℕ) where
   single-fits n (y ∷ []) x q = let e : x ≡ y = cc in omega (arith, ap size e)
   single-fits n (y ∷ z ∷ xs) x q = let w : _≡_ {A = ℕ} 0 1 = cc in absurd (omega arith)
 
-  went-on : (place : ℕ) (a : Result (Reading X) Refusal) (next : Reading X → Result X Refused) (x : X) → go-on place a next ≡ Ok x
-      → (s : Reading X) × (a ≡ Ok s) × (next s ≡ Ok x)
-  went-on place (Ok s) next x q = (s, refl, q)
-  went-on place (Err why) next x q = let w : _≡_ {A = ℕ} 0 1 = cc in absurd (omega arith)
-
   read-few : (item : ℕ → Option (Item X)) → ((b : ℕ) → Good (item b)) → (r : Reading X) (i : ℕ) (bs : List ℕ) (x : X)
       → Fits r → read-items item r i bs ≡ Ok x → size x ≤ 6
   read-few item good r i [] x fits q = omega (arith, single-fits i (r .values) x q, fits .same, fits .few)
@@ -119,8 +120,8 @@ past-good guards b =
     (choose _ (eqb b 38) (some (takes-two false Past.both) (λ x y. omega arith))
     (choose _ (eqb b 124) (some (takes-two false Past.either) (λ x y. omega arith))
     (choose _ (eqb b 89) (some (takes-one true Past.previous) (λ x. refl))
-    (choose _ (eqb b 79) (some (takes-one true Past.once) (λ x. refl))
     (choose _ (eqb b 72) (some (takes-one true Past.historically) (λ x. refl))
+    (choose _ (eqb b 79) (some (takes-one true Past.once) (λ x. refl))
     (choose _ (eqb b 83) (some (takes-two true Past.since) (λ x y. refl))
     (choose _ (leb 97 b && leb b 122) (named-good (λ p. items (mirrored p)) Past.letter (λ g. refl) (nth guards (b - 96))) none)))))))
 

@@ -43,15 +43,15 @@ future-item guards b =
     (cond (eqb b 86) (Some (takes-two true Future.release))
     (letter-item Future.letter guards b)))))))))
 
--- the items of a past line: letters, ! & | Y O H S
+-- the items of a past line: letters, ! & | Y H O S
 abbrev pub past-item : List Guard → ℕ → Option (Item Past)
 past-item guards b =
     cond (eqb b 33) (Some (takes-one false Past.negated))
     (cond (eqb b 38) (Some (takes-two false Past.both))
     (cond (eqb b 124) (Some (takes-two false Past.either))
     (cond (eqb b 89) (Some (takes-one true Past.previous))
-    (cond (eqb b 79) (Some (takes-one true Past.once))
     (cond (eqb b 72) (Some (takes-one true Past.historically))
+    (cond (eqb b 79) (Some (takes-one true Past.once))
     (cond (eqb b 83) (Some (takes-two true Past.since))
     (letter-item Past.letter guards b)))))))
 

@@ -1,0 +1,2 @@
+pub mod Valuing
+pub mod Bounds

@@ -1,0 +1,2 @@
+pub mod RuleFiles
+pub mod Passes

@@ -1,0 +1,2 @@
+// Rule lines: read from a rule file into a monitor.
+mod pass;
