@@ -1,2 +1,3 @@
 pub mod RuleFiles
 pub mod Passes
+pub mod Outlines

@@ -1,2 +1,3 @@
 // Rule lines: read from a rule file into a monitor.
 mod pass;
+mod progress;

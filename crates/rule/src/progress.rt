@@ -1,0 +1,74 @@
+// Reading the items of a line: how many values wait to be taken, how many temporal items came, and their bits behind the last
+// position.
+ghost use Prim.Native.Nat.{_^_, _<_, _≤_};
+ghost use mathlib.Core.Path.{_≡_};
+ghost use Rattle.rule.specs.Outlines.{gives as gives-of, takes as takes-of, counts as counts-of, stepped as stepped-of};
+use history::Refusal;
+
+// The most temporal items of a line.
+const TEMPORAL: u8 = 6;
+
+#[derive(Clone, Copy)]
+pub(crate) struct Progress {
+    pub(crate) depth: u8,
+    pub(crate) temporal: u8,
+    pub(crate) end: u64,
+}
+
+impl Progress {
+    fn gives(self) -> Progress
+        requires { ⌜ self .depth < 255 ⌝ }
+        ensures { λ r. ⌜ r ≡ gives-of self ⌝ }
+    {
+        Progress {
+            depth: self.depth + 1,
+            ..self
+        }
+    }
+
+    fn takes(self, values: u8) -> Result<Progress, Refusal>
+        requires { ⌜ self .depth < 255 ⌝ }
+        ensures { λ r. ⌜ r ≡ takes-of values self ⌝ }
+    {
+        if self.depth < values {
+            return Err(Refusal::MissingOperand);
+        }
+        Ok(Progress {
+            depth: self.depth - values + 1,
+            ..self
+        })
+    }
+
+    fn counts(self, bit: bool) -> Result<Progress, Refusal>
+        requires { ⌜ self .end < 2 ^ self .temporal ⌝ }
+        ensures { λ r. ⌜ r ≡ counts-of bit self ⌝ }
+    {
+        if self.temporal >= TEMPORAL {
+            return Err(Refusal::TooManyTemporalItems);
+        }
+        let weight = 1 << self.temporal;
+        Ok(Progress {
+            depth: self.depth,
+            temporal: self.temporal + 1,
+            end: if bit { self.end + weight } else { self.end },
+        })
+    }
+
+    // The progress behind one more item.
+    fn stepped(self, past: bool, guards: u8, item: u8) -> Result<Progress, Refusal>
+        requires { ⌜ self .depth < 255 ⌝ }
+        requires { ⌜ self .end < 2 ^ self .temporal ⌝ }
+        ensures { λ r. ⌜ r ≡ stepped-of past guards item self ⌝ }
+    {
+        match (past, item) {
+            (_, b'!') => self.takes(1),
+            (_, b'&' | b'|') => self.takes(2),
+            (false, b'X' | b'F') | (true, b'Y' | b'O') => self.takes(1)?.counts(false),
+            (false, b'W' | b'G') | (true, b'H') => self.takes(1)?.counts(true),
+            (false, b'U') | (true, b'S') => self.takes(2)?.counts(false),
+            (false, b'V') => self.takes(2)?.counts(true),
+            (_, b'a'..=b'z') if item - b'a' < guards => Ok(self.gives()),
+            _ => Err(Refusal::UnknownItem),
+        }
+    }
+}
