@@ -1,2 +1,3 @@
 pub mod Valuing
 pub mod Bounds
+pub mod Outlining

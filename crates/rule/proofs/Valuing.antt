@@ -54,7 +54,7 @@ half-drop (suc k) [] = omega arith
 half-drop (suc k) (b ∷ bs) = half-drop k bs
 
 -- a bit behind the others
-behind : (bs : List Bool) (b : Bool) → number-of (bs ++ b ∷ []) ≡ number-of bs + cond b (2 ^ length bs) 0
+pub behind : (bs : List Bool) (b : Bool) → number-of (bs ++ b ∷ []) ≡ number-of bs + cond b (2 ^ length bs) 0
 behind [] true = omega arith
 behind [] false = omega arith
 behind (c ∷ bs) true = omega (arith, behind bs true, pow-suc 2 (length bs))
@@ -242,13 +242,14 @@ module _ (e : Label) (d : List Bool) where
         let n = went-on i (known (item b) r) (λ s. read-items item s (suc i) bs) x q in
         ap (λ p. passed guards e p bs) (known-works (works b) r (n .0) (n .1)) ∙ passes guards item works (n .0) (suc i) bs x (n .2)
 
+-- one byte apart from the others
+pub at : (P : ℕ → Type 0) (b c : ℕ) → P c → (eqb b c ≡ false → P b) → P b
+at P b c w rest = ⊎-elim (λ (q : b ≡ c). subst P (sym q) w) (λ n. rest (ne-eqb b c n)) (cases-eq b c)
+
 -- the items of both kinds, byte by byte
 module _ (e : Label) (d : List Bool) (guards : List Guard) where
   abbrev Future-works : ℕ → Type 0
   Future-works b = Works e d (λ f. f) (future-item guards b) (valued guards e b)
-
-  at : (P : ℕ → Type 0) (b c : ℕ) → P c → (eqb b c ≡ false → P b) → P b
-  at P b c w rest = ⊎-elim (λ (q : b ≡ c). subst P (sym q) w) (λ n. rest (ne-eqb b c n)) (cases-eq b c)
 
   future-works : (b : ℕ) → Future-works b
   future-works b =

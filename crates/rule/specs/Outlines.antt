@@ -51,3 +51,7 @@ closed n p =
 abbrev pub outlined : Bool → ℕ → Progress → ℕ → List ℕ → Result Progress Refused
 outlined looks-back n p i [] = closed i p
 outlined looks-back n p i (b ∷ bs) = go-on i (stepped looks-back n b p) (λ q. outlined looks-back n q (suc i) bs)
+
+-- nothing read yet
+abbrev pub untaken : Progress
+untaken = record { depth = 0; temporal = 0; end = 0 }

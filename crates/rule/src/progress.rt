@@ -1,9 +1,11 @@
 // Reading the items of a line: how many values wait to be taken, how many temporal items came, and their bits behind the last
 // position.
 ghost use Prim.Native.Nat.{_^_, _<_, _≤_};
+ghost use lib.ListN.{length};
 ghost use mathlib.Core.Path.{_≡_};
-ghost use Rattle.rule.specs.Outlines.{gives as gives-of, takes as takes-of, counts as counts-of, stepped as stepped-of};
+ghost use Rattle.rule.specs.Outlines.{gives as gives-of, takes as takes-of, counts as counts-of, stepped as stepped-of, closed as closed-of, outlined as outlined-of, untaken};
 use history::Refusal;
+use history::Refused;
 
 // The most temporal items of a line.
 const TEMPORAL: u8 = 6;
@@ -70,5 +72,48 @@ impl Progress {
             (_, b'a'..=b'z') if item - b'a' < guards => Ok(self.gives()),
             _ => Err(Refusal::UnknownItem),
         }
+    }
+}
+
+// The progress behind all items, or the first refusal with its index in the line, where the kind stands at index 0.
+pub(crate) fn outlined(past: bool, guards: u8, items: &[u8]) -> Result<Progress, Refused>
+    requires { ⌜ length (now items) ≤ 32 ⌝ }
+    ensures { λ r. ⌜ r ≡ outlined-of past guards untaken 1 (now (items .entry)) ⌝ }
+{
+    let mut progress = Progress {
+        depth: 0,
+        temporal: 0,
+        end: 0,
+    };
+    let mut index = 1;
+    for item in items {
+        match progress.stepped(past, guards, *item) {
+            Ok(next) => progress = next,
+            Err(refusal) => {
+                return Err(Refused {
+                    refusal,
+                    place: index,
+                });
+            }
+        }
+        index += 1;
+    }
+    closed(progress, index)
+}
+
+// One value must be left.
+fn closed(progress: Progress, length: u16) -> Result<Progress, Refused>
+    ensures { λ r. ⌜ r ≡ closed-of length progress ⌝ }
+{
+    match progress.depth {
+        0 => Err(Refused {
+            refusal: Refusal::MissingOperand,
+            place: length,
+        }),
+        1 => Ok(progress),
+        _ => Err(Refused {
+            refusal: Refusal::UnusedValue,
+            place: length,
+        }),
     }
 }
