@@ -1,3 +1,4 @@
 pub mod Valuing
 pub mod Bounds
 pub mod Outlining
+pub mod Answered

@@ -1,3 +1,5 @@
 pub mod RuleFiles
 pub mod Passes
 pub mod Outlines
+pub mod RuleLines
+pub mod Held
