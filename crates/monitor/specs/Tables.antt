@@ -13,6 +13,9 @@ use Rattle.monitor.specs.Guards.{guard-at, triggers}
 use Rattle.monitor.specs.Meanings.{Meaning}
 use Rattle.monitor.specs.declared.bytes.Arc.{Arc}
 use Rattle.std.specs.Orderings.{Decides}
+use Rattle.monitor.specs.declared.guard.Guard.{Guard}
+use Rattle.std.specs.declared.option.Option.{Option}
+use Rattle.std.specs.declared.option.Option.the-variants.{Some, None}
 use Rattle.std.specs.declared.result.Result.the-variants.{Ok, Err}
 
 -- the number of states, the initial one, a mask with bit k for a bad state k, and the bytes of guards and arcs
@@ -45,6 +48,10 @@ arc-count d = length (d .arcs) / 3
 -- guard k's outside byte is 0 or 1
 abbrev pub guard-lawful : List ℕ → ℕ → Bool
 guard-lawful guards k = leb (getD guards (10 * k + 9) 0) 1
+
+-- guard k of a list, where it is whole and lawful
+abbrev pub listed-guard : List ℕ → ℕ → Option Guard
+listed-guard bytes k = cond (leb (10 * k + 10) (length bytes) && guard-lawful bytes k) (Some (guard-at bytes k)) None
 
 -- both ends of the arc are states and its guard is listed
 abbrev pub arc-lawful : ℕ → ℕ → Arc → Bool

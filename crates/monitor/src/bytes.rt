@@ -3,7 +3,7 @@ ghost use Prim.Native.Nat.{_+_, _*_, _<_};
 ghost use lib.ListN.{length};
 ghost use mathlib.Core.Path.{_≡_};
 ghost use Rattle.monitor.specs.Guards.{guard-at};
-ghost use Rattle.monitor.specs.Tables.{arc-at};
+ghost use Rattle.monitor.specs.Tables.{arc-at, listed-guard};
 use crate::guard::Guard;
 
 // An arc of a table: the state that it leaves, the number of its guard, the state that it leads to.
@@ -37,4 +37,15 @@ pub(crate) fn read_guard(bytes: &[u8], k: usize) -> Guard
         high: i32::from_be_bytes([bytes[at + 5], bytes[at + 6], bytes[at + 7], bytes[at + 8]]),
         outside: bytes[at + 9] == 1,
     }
+}
+
+// Guard k of a list of guard bytes, where all its bytes are there and its outside byte is 0 or 1.
+pub fn listed_guard(bytes: &[u8], k: u8) -> Option<Guard>
+    ensures { λ r. ⌜ r ≡ listed-guard (now (bytes .entry)) k ⌝ }
+{
+    let k = k as usize;
+    if bytes.len() < 10 * k + 10 || bytes[10 * k + 9] > 1 {
+        return None;
+    }
+    Some(read_guard(bytes, k))
 }

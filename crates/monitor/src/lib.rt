@@ -6,6 +6,7 @@ mod guard;
 mod interface;
 mod table;
 
+pub use bytes::listed_guard;
 pub use combine::Both;
 pub use combine::BothMonitor;
 pub use combine::Either;

@@ -2,3 +2,4 @@ pub mod Valuing
 pub mod Bounds
 pub mod Outlining
 pub mod Answered
+pub mod Listing

@@ -3,3 +3,4 @@ pub mod Passes
 pub mod Outlines
 pub mod RuleLines
 pub mod Held
+pub mod Parts

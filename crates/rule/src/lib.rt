@@ -1,5 +1,6 @@
 // Rule lines: read from a rule file into a monitor.
 mod automaton;
+mod file;
 mod line;
 mod pass;
 mod progress;
