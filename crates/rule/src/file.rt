@@ -2,15 +2,44 @@
 ghost use Prim.Native.Nat.{_≤_};
 ghost use lib.ListN.{length, take};
 ghost use mathlib.Core.Path.{_≡_};
-ghost use Rattle.rule.specs.Parts.{Listed};
+ghost use Rattle.rule.specs.Parts.{Header, Listed, Shape};
 use history::Refusal;
 use monitor::Guard;
 use monitor::listed_guard;
+
+const VERSION: u16 = 1;
 
 // The most guards and items of a line.
 const GUARDS: usize = 26;
 
 const ITEMS: usize = 32;
+
+// The file's guard count and the bytes behind it.
+fn header(file: &[u8]) -> Result<(u8, &[u8]), Refusal>
+    ensures { λ r. ⌜ Header (now (file .entry)) r ⌝ }
+{
+    let [b'R', b'U', b'L', high, low, count, rest @ ..] = file else {
+        return Err(Refusal::NotARuleFile);
+    };
+    if u16::from_be_bytes([*high, *low]) != VERSION {
+        return Err(Refusal::RuleVersion);
+    }
+    Ok((*count, rest))
+}
+
+// Whether a line is a past one, and its items.
+fn shaped(line: &[u8]) -> Result<(bool, &[u8]), Refusal>
+    ensures { λ r. ⌜ Shape (now (line .entry)) r ⌝ }
+{
+    if line.len() < 2 || line.len() > 1 + ITEMS {
+        return Err(Refusal::LineShape);
+    }
+    match line {
+        [b'<', items @ ..] => Ok((true, items)),
+        [b'>', items @ ..] => Ok((false, items)),
+        _ => Err(Refusal::LineShape),
+    }
+}
 
 // The guards of a list.
 fn listed(bytes: &[u8], count: u8) -> Result<[Guard; GUARDS], Refusal>
