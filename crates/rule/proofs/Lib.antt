@@ -3,3 +3,4 @@ pub mod Bounds
 pub mod Outlining
 pub mod Answered
 pub mod Listing
+pub mod Filed

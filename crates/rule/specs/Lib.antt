@@ -4,3 +4,4 @@ pub mod Outlines
 pub mod RuleLines
 pub mod Held
 pub mod Parts
+pub mod Reads

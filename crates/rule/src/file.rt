@@ -3,7 +3,16 @@ ghost use Prim.Native.Nat.{_≤_};
 ghost use lib.ListN.{length, take};
 ghost use mathlib.Core.Path.{_≡_};
 ghost use Rattle.rule.specs.Parts.{Header, Listed, Shape};
+ghost use mathlib.Core.Bool.{true};
+ghost use Rattle.rule.specs.Held.{held};
+ghost use Rattle.rule.specs.Reads.{Line-read};
+ghost use Rattle.rule.specs.RuleFiles.{read-answer, rule-of, told};
+ghost use Rattle.std.specs.Results.{isErr, isOk};
+use crate::line::RuleLine;
+use crate::progress::outlined;
 use history::Refusal;
+use history::Refused;
+use history::RefusedFrom;
 use monitor::Guard;
 use monitor::listed_guard;
 
@@ -69,4 +78,40 @@ fn kept(items: &[u8]) -> [u8; ITEMS]
     let mut kept = [0; ITEMS];
     kept[..items.len()].copy_from_slice(items);
     kept
+}
+
+// The line of a file.
+fn line_of(file: &[u8]) -> Result<RuleLine, Refused>
+    ensures { λ r. ⌜ Line-read (now (file .entry)) r ⌝ }
+{
+    let (letters, rest) = header(file)?;
+    if letters as usize > GUARDS {
+        return Err(Refused {
+            refusal: Refusal::GuardList,
+            place: 0,
+        });
+    }
+    let guards = listed(rest, letters)?;
+    let (past, items) = shaped(&rest[10 * letters as usize..])?;
+    let outline = outlined(past, letters, items)?;
+    Ok(RuleLine {
+        past,
+        guards,
+        letters,
+        items: kept(items),
+        size: items.len() as u8,
+        outline,
+    })
+}
+
+impl RuleLine {
+    // Becomes the line of a rule file.
+    pub fn read(&mut self, file: &[u8]) -> Result<(), Refused>
+        ensures answer { λ r. ⌜ r ≡ told (read-answer (now (file .entry))) ⌝ }
+        ensures holds { λ r. ⌜ (isOk r ≡ true → held (now (self .exit)) ≡ rule-of (now (file .entry))) ⌝ }
+        ensures unchanged { λ r. ⌜ (isErr r ≡ true → now (self .exit) ≡ now (self .entry)) ⌝ }
+    {
+        *self = line_of(file)?;
+        Ok(())
+    }
 }
