@@ -4,3 +4,4 @@ pub mod Outlining
 pub mod Answered
 pub mod Listing
 pub mod Filed
+pub mod Promised

@@ -5,3 +5,4 @@ pub mod RuleLines
 pub mod Held
 pub mod Parts
 pub mod Reads
+pub mod Driven

@@ -2,6 +2,7 @@
 ghost use Prim.Native.Nat.{_≤_};
 ghost use mathlib.Core.Path.{_≡_};
 ghost use lib.ListN.{take};
+ghost use Rattle.rule.specs.Driven.{Rule-driven};
 ghost use Rattle.rule.specs.Held.{held, pass-over, steps-ahead as steps-ahead-of, steps-back as steps-back-of};
 ghost use Rattle.rule.specs.RuleFiles.{formula-of};
 ghost use Rattle.rule.specs.RuleLines.{automaton, rule-lawful};
@@ -93,3 +94,9 @@ pub impl Monitor for RuleLine as RuleLineMonitor {
         }
     }
 }
+
+// The promise of every rule line: its monitor can be driven to a bad state, by a sequence of one event or more, exactly when its
+// line does not hold on it.
+pub fn rule_line_driven(line: &RuleLine)
+    ensures { λ _. ⌜ Rule-driven (held (now (line .entry))) ⌝ }
+{}
