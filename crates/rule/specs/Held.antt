@@ -3,7 +3,9 @@ use Prim.Native.Nat.{ℕ, _+_, _-_, _^_}
 use lib.Dec.{eqb, leb}
 use lib.ListN.{take}
 use mathlib.Core.Bool.{Bool, true, false, cond, _&&_}
+use mathlib.Core.List.{[], _∷_}
 use Rattle.history.specs.declared.Label.{Label}
+use Rattle.monitor.specs.Guards.{guard-at}
 use Rattle.rule.specs.RuleFiles.{Rule}
 use Rattle.rule.specs.Passes.{passed, begun}
 use Rattle.rule.specs.declared.line.RuleLine.{RuleLine}
@@ -12,6 +14,14 @@ use Rattle.rule.specs.declared.progress.Progress.{Progress}
 
 abbrev pub held : RuleLine → Rule
 held l = record { looks-back = l .past; guards = take (l .letters) (l .guards); items = take (l .size) (l .items) }
+
+-- what a new line holds: the future line a!a|, which holds on every sequence, with the guard of ten zero bytes
+abbrev pub always-held : Rule
+always-held = record {
+  looks-back = false;
+  guards = guard-at [] 0 ∷ [];
+  items = 97 ∷ 33 ∷ 97 ∷ 124 ∷ [];
+}
 
 abbrev pub pass-over : Rule → Label → ℕ → Pass
 pass-over r e d = passed (r .guards) e (begun d) (r .items)

@@ -4,11 +4,13 @@ ghost use lib.ListN.{length, take};
 ghost use mathlib.Core.Path.{_≡_};
 ghost use Rattle.rule.specs.Parts.{Header, Listed, Shape};
 ghost use mathlib.Core.Bool.{true};
-ghost use Rattle.rule.specs.Held.{held};
+ghost use Rattle.rule.specs.Driven.{Rule-driven};
+ghost use Rattle.rule.specs.Held.{held, always-held};
 ghost use Rattle.rule.specs.Reads.{Line-read};
 ghost use Rattle.rule.specs.RuleFiles.{read-answer, rule-of, told};
 ghost use Rattle.std.specs.Results.{isErr, isOk};
 use crate::line::RuleLine;
+use crate::progress::Progress;
 use crate::progress::outlined;
 use history::Refusal;
 use history::Refused;
@@ -22,6 +24,14 @@ const VERSION: u16 = 1;
 const GUARDS: usize = 26;
 
 const ITEMS: usize = 32;
+
+// What stands where no guard is named.
+const NO_GUARD: Guard = Guard {
+    variable: 0,
+    low: 0,
+    high: 0,
+    outside: false,
+};
 
 // The file's guard count and the bytes behind it.
 fn header(file: &[u8]) -> Result<(u8, &[u8]), Refusal>
@@ -55,12 +65,7 @@ fn listed(bytes: &[u8], count: u8) -> Result<[Guard; GUARDS], Refusal>
     requires { ⌜ count ≤ 26 ⌝ }
     ensures { λ r. ⌜ Listed (now (bytes .entry)) count r ⌝ }
 {
-    let mut guards = [Guard {
-        variable: 0,
-        low: 0,
-        high: 0,
-        outside: false,
-    }; GUARDS];
+    let mut guards = [NO_GUARD; GUARDS];
     for k in 0..count {
         match listed_guard(bytes, k) {
             Some(guard) => guards[k as usize] = guard,
@@ -105,10 +110,34 @@ fn line_of(file: &[u8]) -> Result<RuleLine, Refused>
 }
 
 impl RuleLine {
+    // The future line a!a|, which holds on every sequence.
+    pub fn new() -> RuleLine
+        ensures { λ r. ⌜ held r ≡ always-held ⌝ }
+    {
+        let mut items = [0; ITEMS];
+        items[0] = b'a';
+        items[1] = b'!';
+        items[2] = b'a';
+        items[3] = b'|';
+        RuleLine {
+            past: false,
+            guards: [NO_GUARD; GUARDS],
+            letters: 1,
+            items,
+            size: 4,
+            outline: Progress {
+                depth: 1,
+                temporal: 0,
+                end: 0,
+            },
+        }
+    }
+
     // Becomes the line of a rule file.
     pub fn read(&mut self, file: &[u8]) -> Result<(), Refused>
         ensures answer { λ r. ⌜ r ≡ told (read-answer (now (file .entry))) ⌝ }
         ensures holds { λ r. ⌜ (isOk r ≡ true → held (now (self .exit)) ≡ rule-of (now (file .entry))) ⌝ }
+        ensures driven { λ r. ⌜ (isOk r ≡ true → Rule-driven (rule-of (now (file .entry)))) ⌝ }
         ensures unchanged { λ r. ⌜ (isErr r ≡ true → now (self .exit) ≡ now (self .entry)) ⌝ }
     {
         *self = line_of(file)?;

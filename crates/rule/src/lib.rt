@@ -4,3 +4,7 @@ mod file;
 mod line;
 mod pass;
 mod progress;
+
+pub use automaton::RuleLineMonitor;
+pub use automaton::rule_line_driven;
+pub use line::RuleLine;
