@@ -1,5 +1,7 @@
 // Examples of every crate, as tests, and a monitor as a buyer writes one.
 #[cfg(test)]
+mod lines;
+#[cfg(test)]
 mod load;
 #[cfg(test)]
 mod monitors;
