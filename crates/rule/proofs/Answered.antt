@@ -2,12 +2,11 @@
 use Prim.Native.Nat.{ℕ, zero, suc, _+_, _-_, _^_, _≤_, _<_}
 use native.Mathlib.Omega.{arith}
 use lib.Dec.{eqb, leb, ltb}
-use lib.Pow.{pow-mono}
-use mathlib.Core.Bool.{Bool, true, false, cond, not, _&&_}
+use mathlib.Core.Bool.{Bool, true, false, cond, not, _&&_, and-false}
 use mathlib.Core.List.{List}
 use mathlib.Core.Logic.{⊎-elim}
 use mathlib.Core.Path.{_≡_, refl, sym, ap, ap₂, _∙_, subst}
-use Rattle.std.proofs.shelf.Tests.{and-parts, eqb-true, eq-eqb, ne-eqb, lt-ltb, le-leb, lt-leb, false≢true, cases-eq, cond-true, cond-false}
+use Rattle.std.proofs.shelf.Tests.{and-parts, eqb-true, eq-eqb, ne-eqb, lt-ltb, le-leb, lt-leb, false≢true, cases-eq, cond-false}
 use Rattle.std.specs.declared.result.Result.{Result}
 use Rattle.std.specs.declared.result.Result.the-variants.{Ok, Err}
 use Rattle.history.specs.declared.Label.{Label}
@@ -18,11 +17,10 @@ use Rattle.formula.proofs.Reading.{future-few, past-few}
 use Rattle.formula.specs.Automata.{number-of, bits-of, value, values, end-bits, mirrored, future, future-step, past, past-next, past-step}
 use Rattle.formula.specs.Formulas.{Future, Past, items}
 use Rattle.formula.specs.Lines.{future-line, past-line}
-use Rattle.rule.specs.Held.{pass-over, steps-ahead, leads-back, steps-back, states-of}
+use Rattle.rule.specs.Held.{steps-ahead, leads-back, steps-back, states-of}
 use Rattle.rule.specs.Passes.{passed, begun, ended}
 use Rattle.rule.specs.RuleFiles.{Rule, ahead-of, behind-of, formula-of}
 use Rattle.rule.specs.RuleLines.{outlines, automaton}
-use Rattle.rule.specs.declared.pass.Pass.{Pass}
 use Rattle.rule.specs.declared.progress.Progress.{Progress}
 use Rattle.rule.proofs.Valuing.{future-passed, past-passed}
 
@@ -49,10 +47,6 @@ two-above h t = ⊎-elim
   where
     few : h ≡ t - 2 → (t ≡ 2 + h → ⊥) → t < 2
     few q n = omega arith
-
-    and-false : (b : Bool) → (b && false) ≡ false
-    and-false true = refl
-    and-false false = refl
 
 -- where a past line leads
 leads : (f : Future) (e : Label) (d : List Bool) (t : ℕ) → leads-back (ended f e d) t ≡ eqb t (past-next f e d)

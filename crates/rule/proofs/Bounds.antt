@@ -16,7 +16,7 @@ use Rattle.std.specs.declared.result.Result.the-variants.{Ok, Err}
 use Rattle.rule.specs.declared.pass.Pass.{Pass}
 use Rattle.rule.specs.declared.progress.Progress.{Progress}
 use Rattle.rule.specs.Outlines.{takes, counts, then-counts, stepped}
-use Rattle.rule.specs.Passes.{last, earlier, looked, put, push, one, two, keep, triggered, valued}
+use Rattle.rule.specs.Passes.{put, one, two, keep, triggered, valued}
 
 pub record Bounded (n : ℕ) (p : Pass) : Type 0 where
   pub stack-below : p .stack < 2 ^ n

@@ -5,13 +5,12 @@ use lib.Dec.{eqb, leb, ltb}
 use lib.ListN.{length, getD, drop}
 use mathlib.Core.Bool.{Bool, true, false, cond, not, _&&_, _||_}
 use mathlib.Core.List.{List, [], _∷_, _++_}
-use mathlib.Core.Path.{_≡_, refl, sym, ap, ap₂, _∙_, subst}
+use mathlib.Core.Path.{_≡_, refl, sym, ap, ap₂, _∙_}
 use Rattle.std.proofs.shelf.Lists.{length-append}
 use Rattle.std.proofs.shelf.Tests.{eq-eqb, cond-true, cond-false}
 use Rattle.std.specs.declared.result.Result.{Result}
 use Rattle.std.specs.declared.result.Result.the-variants.{Ok, Err}
-use Rattle.history.specs.Notes.{Answer}
-use Rattle.history.specs.declared.Refusal.the-variants.{NotARuleFile, RuleVersion, GuardList, LineShape}
+use Rattle.history.specs.declared.Refusal.the-variants.{GuardList, LineShape}
 use Rattle.history.specs.declared.Refused.{Refused}
 use Rattle.monitor.specs.Guards.{guard-at}
 use Rattle.monitor.specs.declared.guard.Guard.{Guard}
@@ -20,8 +19,8 @@ use Rattle.formula.specs.Formulas.{Future, Past, items}
 use Rattle.formula.specs.Lines.{future-line, past-line}
 use Rattle.rule.specs.Outlines.{outlined, untaken}
 use Rattle.rule.specs.Parts.{Opened, Shaped, all-listed}
-use Rattle.rule.specs.RuleFiles.{Rule, Formula, ahead-of, behind-of, formula-of, marked, guard-bytes, guards-of, guards-listed, line-bytes, rule-of, line-shaped, file-answer}
-use Rattle.rule.specs.RuleLines.{plain, outlines, length-end}
+use Rattle.rule.specs.RuleFiles.{Rule, ahead-of, behind-of, formula-of, marked, guards-of, guards-listed, line-bytes, rule-of, line-shaped, file-answer}
+use Rattle.rule.specs.RuleLines.{outlines, length-end}
 use Rattle.rule.specs.declared.progress.Progress.{Progress}
 use Rattle.rule.proofs.Outlining.{finished, future-outlined, past-outlined}
 

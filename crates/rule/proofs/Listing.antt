@@ -1,14 +1,13 @@
 -- Guards are listed one by one: all are there and lawful, or the first that is not stands for all.
-use Prim.Native.Nat.{ℕ, suc, _+_, _*_, _≤_, _<_}
+use Prim.Native.Nat.{ℕ, _+_, _*_, _≤_, _<_}
 use native.Mathlib.Omega.{arith}
 use lib.Dec.{leb}
 use lib.ListN.{length}
-use mathlib.Core.Bool.{Bool, true, false, cond, _&&_}
-use mathlib.Core.List.{List, [], _∷_, _++_}
+use mathlib.Core.Bool.{Bool, true, false, cond, _&&_, and-false}
+use mathlib.Core.List.{List}
 use mathlib.Core.Logic.{⊎-elim}
 use mathlib.Core.Path.{_≡_, refl, sym, ap, ap₂, _∙_}
 use Rattle.std.proofs.shelf.Tests.{and-parts, leb-true, leb-false, le-leb, lt-leb, cases-bool, cond-true, cond-false}
-use Rattle.std.specs.declared.option.Option.{Option}
 use Rattle.std.specs.declared.option.Option.the-variants.{Some, None}
 use Rattle.history.proofs.Nth.{same-some}
 use Rattle.monitor.proofs.Below.{all-more, all-fails}
@@ -16,7 +15,6 @@ use Rattle.monitor.specs.Guards.{guard-at}
 use Rattle.monitor.specs.Tables.{all-below, guard-lawful, listed-guard}
 use Rattle.monitor.specs.declared.guard.Guard.{Guard}
 use Rattle.rule.specs.Parts.{all-listed}
-use Rattle.rule.specs.RuleFiles.{guards-of}
 
 module _ (bytes : List ℕ) (k : ℕ) where
   abbrev whole : Bool
@@ -47,7 +45,3 @@ module _ (bytes : List ℕ) (k : ℕ) where
       (λ far. ap (λ b. b && all-below n (guard-lawful bytes)) (lt-leb (10 * n) (length bytes) (omega (arith, leb-false _ _ far, l))))
       (cases-bool (leb (10 * k + 10) (length bytes))))
       (cases-bool whole)
-    where
-      and-false : (b : Bool) → (b && false) ≡ false
-      and-false true = refl
-      and-false false = refl

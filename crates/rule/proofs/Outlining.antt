@@ -1,15 +1,15 @@
 -- Reading a line by counting values and bits answers as reading its formula, and comes to the formula's bits behind the last
 -- position.
-use Prim.Native.Nat.{ℕ, zero, suc, _+_, _-_, _^_, _≤_, _<_}
+use Prim.Native.Nat.{ℕ, suc, _+_, _-_, _^_, _≤_, _<_}
 use native.Mathlib.Omega.{arith}
 use lib.Dec.{eqb, leb, ltb}
 use lib.ListN.{length}
-use mathlib.Core.Bool.{Bool, true, false, cond, not, _&&_, _||_}
+use mathlib.Core.Bool.{Bool, true, false, cond, _&&_, _||_}
 use mathlib.Core.List.{List, [], _∷_, _++_}
 use mathlib.Core.Logic.{⊎-elim}
 use mathlib.Core.Path.{_≡_, refl, sym, ap, _∙_, subst, fun-ext}
 use Rattle.std.proofs.shelf.Lists.{length-append, append-assoc, append-nil}
-use Rattle.std.proofs.shelf.Tests.{eq-eqb, ne-eqb, lt-ltb, le-ltb, cases-eq, cases-bool, cond-true, cond-false, and-parts, leb-true, leb-false, true≢false}
+use Rattle.std.proofs.shelf.Tests.{ne-eqb, lt-ltb, le-ltb, cases-bool, cond-true, cond-false, and-parts, leb-true, leb-false, true≢false}
 use Rattle.std.specs.declared.option.Option.{Option}
 use Rattle.std.specs.declared.option.Option.the-variants.{Some, None}
 use Rattle.std.specs.declared.result.Result.{Result}
@@ -17,7 +17,7 @@ use Rattle.std.specs.declared.result.Result.the-variants.{Ok, Err}
 use Rattle.history.proofs.Nth.{nth-has, nth-none}
 use Rattle.history.specs.Histories.{nth}
 use Rattle.history.specs.declared.Refusal.{Refusal}
-use Rattle.history.specs.declared.Refusal.the-variants.{UnknownItem, MissingOperand, TooManyTemporalItems, UnusedValue}
+use Rattle.history.specs.declared.Refusal.the-variants.{UnknownItem, MissingOperand, TooManyTemporalItems}
 use Rattle.history.specs.declared.Refused.{Refused}
 use Rattle.monitor.specs.declared.guard.Guard.{Guard}
 use Rattle.formula.specs.Automata.{number-of, end-bits, mirrored}

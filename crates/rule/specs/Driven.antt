@@ -1,15 +1,12 @@
 -- The promise of a rule line: its monitor can be driven to a bad state exactly when its line does not hold.
-use mathlib.Core.Bool.{true}
 use mathlib.Core.List.{List, _∷_}
 use mathlib.Core.Logic.{_↔_}
 use mathlib.Core.Path.{_≡_}
 use Rattle.history.specs.declared.Label.{Label}
-use Rattle.history.specs.declared.Refused.{Refused}
 use Rattle.monitor.specs.Meanings.{Drives}
 use Rattle.formula.specs.Sequences.{Holds, Holds-throughout}
 use Rattle.rule.specs.RuleFiles.{Rule, Formula, ahead, behind, formula-of}
 use Rattle.rule.specs.RuleLines.{automaton}
-use Rattle.std.specs.declared.result.Result.{Result}
 use Rattle.std.specs.declared.result.Result.the-variants.{Ok, Err}
 
 -- a line holds on a sequence: a future line from its first position on, a past line at every position

@@ -2,7 +2,7 @@
 use Prim.Native.Nat.{ℕ, _+_, _-_, _^_}
 use lib.Dec.{eqb, leb}
 use lib.ListN.{take}
-use mathlib.Core.Bool.{Bool, true, false, cond, _&&_}
+use mathlib.Core.Bool.{Bool, false, cond, _&&_}
 use mathlib.Core.List.{[], _∷_}
 use Rattle.history.specs.declared.Label.{Label}
 use Rattle.monitor.specs.Guards.{guard-at}

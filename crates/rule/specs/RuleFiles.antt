@@ -1,14 +1,13 @@
 -- Rule files: their bytes, the line that they hold, and what read answers.
-use Prim.Native.Nat.{ℕ, zero, suc, _+_, _*_, _≤_}
+use Prim.Native.Nat.{ℕ, zero, suc, _*_}
 use lib.Dec.{eqb, leb, ltb}
 use lib.ListN.{length, getD, drop}
-use mathlib.Core.Bool.{Bool, true, false, cond, not, _&&_, _||_}
+use mathlib.Core.Bool.{Bool, cond, not, _&&_, _||_}
 use mathlib.Core.List.{List, [], _∷_, _++_}
 use Rattle.history.specs.Notes.{Answer}
 use Rattle.history.specs.declared.Refusal.the-variants.{NotARuleFile, RuleVersion, GuardList, LineShape}
 use Rattle.history.specs.declared.Refused.{Refused}
 use Rattle.monitor.specs.Guards.{guard-at}
-use Rattle.monitor.specs.Meanings.{Meaning}
 use Rattle.monitor.specs.Tables.{all-below, guard-lawful}
 use Rattle.monitor.specs.declared.guard.Guard.{Guard}
 use Rattle.formula.specs.Automata.{future, past}

@@ -1,10 +1,10 @@
 -- What a rule line holds and means, and that what it means is lawful.
 use Prim.Native.Nat.{ℕ, _+_, _^_, _≤_, _<_}
 use native.Mathlib.Omega.{arith}
-use lib.Dec.{eqb, leb, ltb}
-use lib.ListN.{length, take}
-use lib.Pow.{pow-mono, pow-pos}
-use mathlib.Core.Bool.{Bool, true, false, cond, _&&_}
+use lib.Dec.{eqb, ltb}
+use lib.ListN.{length}
+use lib.Pow.{pow-mono}
+use mathlib.Core.Bool.{Bool, true, false, _&&_}
 use mathlib.Core.List.{List, [], _∷_}
 use mathlib.Core.Path.{_≡_, refl, sym, ap, _∙_, subst}
 use Rattle.history.specs.declared.Refused.{Refused}
@@ -16,7 +16,7 @@ use Rattle.formula.specs.Lines.{future-line, past-line}
 use Rattle.formula.proofs.Bits.{number-below}
 use Rattle.formula.proofs.Deserved.{length-deserved, deserved-end}
 use Rattle.formula.proofs.Reading.{future-few, past-few}
-use Rattle.rule.specs.RuleFiles.{Rule, Formula, ahead, behind, ahead-of, behind-of, formula-of}
+use Rattle.rule.specs.RuleFiles.{Formula, ahead, behind, ahead-of, behind-of, formula-of}
 use Rattle.rule.specs.declared.progress.Progress.{Progress}
 use Rattle.std.proofs.shelf.Tests.{and-parts, ltb-true, eqb-true, false≢true}
 use Rattle.std.specs.declared.result.Result.{Result}

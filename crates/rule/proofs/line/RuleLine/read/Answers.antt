@@ -1,15 +1,9 @@
 use borrow.Author.Needs.{needs}
-use lib.ListN.{take}
 use mathlib.Core.Path.{_≡_, sym, ap, _∙_, subst}
 use Rattle.rule.specs.Driven.{Rule-driven}
-use Rattle.rule.specs.Held.{held}
 use Rattle.rule.specs.RuleFiles.{and-then, formula-of, rule-of, told}
-use Rattle.rule.specs.declared.line.RuleLine.{RuleLine}
-use Rattle.rule.proofs.Promised.{promised}
+use Rattle.rule.proofs.Promised.{line-promised}
 use Rattle.rule.proofs.line.RuleLine.read.Needs as need
-
-kept-promise : (l : RuleLine) → Rule-driven (held l)
-kept-promise l = promised (take (l .letters) (l .guards)) (take (l .size) (l .items)) (l .outline) (l .past) (l .lawful)
 
 pub returns : need.returns
 returns c =
@@ -18,8 +12,8 @@ returns c =
     let line = c .in-Continue-self .ensures tt in
     record {
       answer = sym (ap (λ a. told (and-then a (formula-of (rule-of file)))) (line .0)
-          ∙ ap (λ r. told (formula-of r)) (sym (line .1)) ∙ ap told (kept-promise l .is));
+          ∙ ap (λ r. told (formula-of r)) (sym (line .1)) ∙ ap told (line-promised l .is));
       holds = λ _. line .1;
-      driven = λ _. subst Rule-driven (line .1) (kept-promise l);
+      driven = λ _. subst Rule-driven (line .1) (line-promised l);
       unchanged = search needs;
     }
