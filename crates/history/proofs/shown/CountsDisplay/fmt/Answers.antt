@@ -5,5 +5,5 @@ use Rattle.history.proofs.shown.CountsDisplay.fmt.Goals as goal
 pub returns-clause-writes : goal.returns-clause-writes
 returns-clause-writes g c =
     λ plain ok.
-    let p = c.write.ensures.writes plain (ap is_ok c.in-ok-write.was) in
+    let p = c.write.ensures.writes plain (ap is_ok c.in_ok-write.was) in
     has_written_append g.W.Write.write_str_gives _ _ _ _ _ p (c.write-2.ensures.writes p.plain ok)
