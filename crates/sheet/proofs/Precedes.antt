@@ -1,7 +1,8 @@
 -- The clocks of a sheet say which event comes earlier in every compatible order.
-use Rattle.std.proofs.Common.{◌≡◌, ℕ, ◌<◌, Bool, true, false, cond, not, ◌&&◌, leb, List, get_or, Some, Ok, Decides, Option, sym, refl, ◌∙◌, subst, arith}
+use Rattle.std.proofs.Common.{◌≡◌, ℕ, ◌<◌, Bool, true, false, cond, not, ◌&&◌, ◌==◌, leb, List, get_or, Some, Ok, Decides, Option, sym, refl, ◌∙◌, subst, arith}
 use mathlib.Core.Bool.{Bool-set}
 use mathlib.Core.Logic.{∥∥₁_elim}
+use Rattle.std.proofs.lemmas.Bool.Decides.{Decides-and, Decides-eqb, Decides-not}
 use Rattle.std.proofs.lemmas.Bool.{and_parts, and_from, and_left, le-leb, leb-true, true≢false}
 use Rattle.history.proofs.Noted.{on_sheet}
 use Rattle.history.proofs.Precedes.{within_earlier, earlier_within}
@@ -15,14 +16,10 @@ use Rattle.sheet.specs.Sheets.{history}
 use Rattle.sheet.specs.declared.types.Sheet.{Sheet}
 
 -- what a derived comparison says of two events by name
-pub differs : (x r : Bool) (P Q : Type 0)
-    → cond x (Decides true P × Decides true Q) ((Decides false P → ⊥) → (Decides false Q → ⊥) → ⊥)
-    → r ≡ not x → Decides r (P × Q → ⊥)
-differs true r P Q (p, q) e = (λ t. absurd (true≢false (sym t ∙ e)), λ other. absurd (other (p.0 refl, q.0 refl)))
-differs false r P Q either e = (λ _ (p, q). either (no p) (no q), λ _. e)
-  where
-    no : {X : Type 0} → X → Decides false X → ⊥
-    no x d = true≢false (sym (d.1 x))
+pub differs : (a b c d : ℕ) (r : Bool) → r ≡ not ((a == b) && (c == d)) → Decides r ((a ≡ b) × (c ≡ d) → ⊥)
+differs a b c d r e =
+    subst (λ x. Decides x ((a ≡ b) × (c ≡ d) → ⊥)) (sym e)
+    (Decides-not _ (Decides-and _ _ (Decides-eqb a b) (Decides-eqb c d)))
 
 -- an event whose clock is read is there
 pub event_there : (h : History) (e : EventId) (o : Option (List ℕ)) (v : List ℕ) → Clocked h e.station e.number o → o ≡ Some v

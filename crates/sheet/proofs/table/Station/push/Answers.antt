@@ -7,8 +7,8 @@ bounds-self-self c =
     let l : length c.args.self.now.slots ≡ 64 = search rules in
     omega (arith, length-take c.args.self.now.len c.args.self.now.slots)
 
-pub overflow-add-self : goal.overflow-add-self
-overflow-add-self c =
+pub overflow_add-self : goal.overflow_add-self
+overflow_add-self c =
     let l : length c.args.self.now.slots ≡ 64 = search rules in
     omega (arith, length-take c.args.self.now.len c.args.self.now.slots)
 

@@ -4,21 +4,15 @@ use Rattle.history.specs.Notes.{Made, empty}
 use Rattle.sheet.proofs.Held.{held_blank, kept_blank}
 use Rattle.sheet.proofs.types.Sheet.empty.Goals as goal
 
-pub invariant-of-result : goal.invariant-of-result
-invariant-of-result c = (
-  grind (arith, nat_tests),
-  (
-    grind (arith, nat_tests),
-    (
-      ap length c.new.ensures,
-      (
-        ∣ subst Made (sym (held_blank c.args.count c.new.result c.new.ensures (grind (arith, nat_tests))))
-            (empty c.args.count (grind (arith, nat_tests)) (grind (arith, nat_tests))) ∣₁,
-        (∣ kept_blank c.args.count c.new.result c.new.ensures ∣₁, tt),
-      ),
-    ),
-  ),
-)
+pub invariant_of-result : goal.invariant_of-result
+invariant_of-result c = record {
+  some = grind (arith, nat_tests);
+  few = grind (arith, nat_tests);
+  eight = ap length c.new.ensures;
+  made = ∣ subst Made (sym (held_blank c.args.count c.new.result c.new.ensures (grind (arith, nat_tests))))
+      (empty c.args.count (grind (arith, nat_tests)) (grind (arith, nat_tests))) ∣₁;
+  clocks = ∣ kept_blank c.args.count c.new.result c.new.ensures ∣₁;
+}
 
 pub returns : goal.returns
 returns c = held_blank c.args.count c.new.result c.new.ensures (grind (arith, nat_tests))

@@ -5,18 +5,18 @@ use Rattle.sheet.proofs.types.Sheet.precedes.Goals as goal
 pub bounds-reach-first : goal.bounds-reach-first
 bounds-reach-first c =
     station_on c.args.self.now c.args.first
-    (event_there (history c.args.self.now) c.args.first _ _ c.clock.ensures c.in-ok-ok-or.ensures.ok-part).0
+    (event_there (history c.args.self.now) c.args.first _ _ c.clock.ensures c.in_ok-ok_or.ensures.ok_part).0
 
 pub returns-then-ne : goal.returns-then-ne
 returns-then-ne c =
     answers_apart c.args.self.now c.args.first c.args.second _ _
-    (event_there (history c.args.self.now) c.args.first _ _ c.clock.ensures c.in-ok-ok-or.ensures.ok-part)
-    (event_there (history c.args.self.now) c.args.second _ _ c.clock-2.ensures c.in-ok-reach.ensures.ok-part)
-    c.ne.result (differs c.ne.ensures.0 c.ne.result _ _ c.ne.ensures.1 c.ne.ensures.2) c.if-ne.true
+    (event_there (history c.args.self.now) c.args.first _ _ c.clock.ensures c.in_ok-ok_or.ensures.ok_part)
+    (event_there (history c.args.self.now) c.args.second _ _ c.clock-2.ensures c.in_ok-reach.ensures.ok_part)
+    c.ne.result (differs _ _ _ _ c.ne.result c.ne.ensures) c.if-ne.true
 
 pub returns-else-ne : goal.returns-else-ne
 returns-else-ne c =
     answers_same c.args.self.now c.args.first c.args.second _ _
-    (event_there (history c.args.self.now) c.args.first _ _ c.clock.ensures c.in-ok-ok-or.ensures.ok-part)
-    (event_there (history c.args.self.now) c.args.second _ _ c.clock-2.ensures c.in-ok-reach.ensures.ok-part)
-    c.ne.result (differs c.ne.ensures.0 c.ne.result _ _ c.ne.ensures.1 c.ne.ensures.2) c.if-ne.false
+    (event_there (history c.args.self.now) c.args.first _ _ c.clock.ensures c.in_ok-ok_or.ensures.ok_part)
+    (event_there (history c.args.self.now) c.args.second _ _ c.clock-2.ensures c.in_ok-reach.ensures.ok_part)
+    c.ne.result (differs _ _ _ _ c.ne.result c.ne.ensures) c.if-ne.false

@@ -11,8 +11,8 @@ use Rattle.sheet.proofs.types.Sheet.total.Goals as goal
 one_more : (c : goal.After-events) → c.loop-station.all + c.events.result ≡ total (take (suc c.loop-station.station) (history c.args.self.now))
 one_more c = omega (arith, c.loop-station.invariant, c.events.ensures, total_take (history c.args.self.now) c.loop-station.station)
 
-pub overflow-add-all : goal.overflow-add-all
-overflow-add-all c =
+pub overflow_add-all : goal.overflow_add-all
+overflow_add-all c =
     omega (arith, one_more c, total_take_le (history c.args.self.now) (suc c.loop-station.station), few_events c.args.self.now)
 
 pub loop-station-preserved : goal.loop-station-preserved
