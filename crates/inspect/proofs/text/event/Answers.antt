@@ -12,10 +12,10 @@ line station number set awaited reach =
 pub returns : goal.returns
 returns c =
     IfOk-weaker c.format.result
-    (λ s. string_bytes s ≡ line c.args.station c.args.number (string_bytes c.in-ok-set.set)
-    (string_bytes c.in-ok-awaited.awaited) (clock_words c.args.clock))
+    (λ s. string_bytes s ≡ line c.args.station c.args.number (string_bytes c.in_ok-set.set)
+    (string_bytes c.in_ok-awaited.awaited) (clock_words c.args.clock))
     _ (λ s e. e
-    ∙ ap (λ x. line c.args.station c.args.number x (string_bytes c.in-ok-awaited.awaited) (clock_words c.args.clock))
-    c.in-ok-set.ensures
-    ∙ ap (λ x. line c.args.station c.args.number (setting_words c.args.event) x (clock_words c.args.clock)) c.in-ok-awaited.ensures)
+    ∙ ap (λ x. line c.args.station c.args.number x (string_bytes c.in_ok-awaited.awaited) (clock_words c.args.clock))
+    c.in_ok-set.ensures
+    ∙ ap (λ x. line c.args.station c.args.number (setting_words c.args.event) x (clock_words c.args.clock)) c.in_ok-awaited.ensures)
     c.format.ensures.ok

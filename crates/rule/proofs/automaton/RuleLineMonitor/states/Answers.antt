@@ -11,8 +11,8 @@ few_items l = few (take l.letters l.guards) (take l.size l.items) l.outline l.pa
 small : (n : ℕ) → n ≤ 6 → (1 * 2 ^ n) % 65536 ≡ 2 ^ n
 small n l = omega (arith, pow_mono l)
 
-spare-is : (c : goal.After-row-known-2·1) → c.if-self.spare ≡ cond c.args.self.now.past 2 1
-spare-is c = elim c.if-self.branch [
+spare_is : (c : goal.After-row_known-2-1) → c.if-self.spare ≡ cond c.args.self.now.past 2 1
+spare_is c = elim c.if-self.branch [
   | then-self w ↦ w.spare-is ∙ ap (λ b. cond b 2 1) (sym w.if-self.true)
   | else-self w ↦ w.spare-is ∙ ap (λ b. cond b 2 1) (sym w.if-self.false)
 ]
@@ -21,16 +21,16 @@ at_most_two : (b : Bool) → cond b 2 1 ≤ 2
 at_most_two true = omega arith
 at_most_two false = omega arith
 
-pub overflow-shl-result : goal.overflow-shl-result
-overflow-shl-result c = omega (arith, few_items c.args.self.now)
+pub overflow_shl-result : goal.overflow_shl-result
+overflow_shl-result c = omega (arith, few_items c.args.self.now)
 
-pub overflow-add-result : goal.overflow-add-result
-overflow-add-result c =
+pub overflow_add-result : goal.overflow_add-result
+overflow_add-result c =
     let n = c.args.self.now.outline.temporal in
-    omega (arith, small n (few_items c.args.self.now), pow_mono (few_items c.args.self.now), spare-is c, at_most_two c.args.self.now.past)
+    omega (arith, small n (few_items c.args.self.now), pow_mono (few_items c.args.self.now), spare_is c, at_most_two c.args.self.now.past)
 
 pub returns : goal.returns
 returns c =
     let l = c.args.self.now in
-    ap₂ ◌+◌ (small l.outline.temporal (few_items l)) (spare-is c)
+    ap₂ ◌+◌ (small l.outline.temporal (few_items l)) (spare_is c)
     ∙ states_are (take l.letters l.guards) (take l.size l.items) l.outline l.past l.lawful

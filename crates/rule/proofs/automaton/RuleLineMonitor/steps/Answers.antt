@@ -9,7 +9,7 @@ returns-then-self c =
     let s = c.args.from in
     let e = c.args.event in
     let t = c.args.to in
-    c.steps-back.ensures
+    c.steps_back.ensures
     ∙ ap (λ b. cond b (steps_back (held l) l.outline s e t) (steps_ahead (held l) s e t)) (sym c.if-self.true)
     ∙ steps_are (take l.letters l.guards) (take l.size l.items) l.outline l.past l.lawful s e t
     (subst (λ n. s < n) c.states-states.ensures c.if-from-states.false)

@@ -7,8 +7,8 @@ use Rattle.rule.proofs.line.RuleLine.read.Goals as goal
 pub returns : goal.returns
 returns c =
     let file = c.args.file.now in
-    let l = c.in-ok-self.field-0 in
-    let line = c.in-ok-self.ensures in
+    let l = c.in_ok-self.field-0 in
+    let line = c.in_ok-self.ensures in
     record {
       answer = sym (ap (λ a. told (and_then a (formula_of (rule_of file)))) line.0
           ∙ ap (λ r. told (formula_of r)) (sym line.1) ∙ ap told (line_promised l).is);
