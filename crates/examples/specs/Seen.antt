@@ -1,7 +1,6 @@
 -- What the example monitor means: two states, and an event of its variable leads from the start 0 to the bad state 1 for good.
-use Rattle.std.specs.Prelude.{◌≡◌, ℕ, ◌<◌, ◌≤◌, Bool, true, cond, ◌&&◌, ◌||◌, ◌==◌, nat_lt}
-use Rattle.std.proofs.Common.{lit≤, sym, subst, arith}
-use Rattle.history.specs.declared.Label.{Label}
+use Rattle.std.specs.Prelude.{ℕ, cond, ◌&&◌, ◌||◌, ◌==◌, nat_lt}
+use Rattle.std.proofs.Common.{arith}
 use Rattle.monitor.specs.Meanings.{Meaning, Lawful}
 use Rattle.std.proofs.lemmas.Bool.{and_parts, ltb-true, eqb-true}
 

@@ -1,4 +1,6 @@
 // Examples of every crate, as tests, and a monitor as a buyer writes one.
+#![tactic(auto)]
+
 #[cfg(test)]
 mod lines;
 #[cfg(test)]

@@ -1,5 +1,7 @@
 // Temporal formulas: their meaning on sequences, their automata, and the theorem between the two. Laws of the definitions,
 // each with nothing to compute.
+#![tactic(auto)]
+
 ghost use Rattle.formula.specs.Examples.{FutureExamples, PastExamples};
 ghost use Rattle.formula.specs.Laws.{FormulaLaws};
 ghost use Rattle.formula.specs.Theorem.{LinesDriven};

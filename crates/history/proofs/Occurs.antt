@@ -1,8 +1,8 @@
 -- How often a station stands in a list, and at which positions.
-use Rattle.std.proofs.Common.{◌≡◌, ℕ, zero, suc, ◌+◌, ◌<◌, ◌≤◌, cond, eqb, List, [], ◌∷◌, ◌++◌, length, get_or, take, sym, refl, ap, ◌∙◌, subst, ⊎_elim, arith}
+use Rattle.std.proofs.Common.{◌≡◌, ℕ, zero, suc, ◌+◌, ◌<◌, ◌≤◌, eqb, List, [], ◌∷◌, ◌++◌, length, get_or, take, sym, ap, ◌∙◌, ⊎_elim, arith}
 use Rattle.std.proofs.lemmas.List.{take_all}
 use Rattle.std.proofs.lemmas.Bool.{cases_eq, cases_lt, cond-true, cond-false, eq-eqb, ne_eqb}
-use Rattle.history.specs.Orders.{one_if, occurs, number_at, Stands}
+use Rattle.history.specs.Orders.{one_if, occurs, Stands}
 
 pub one_same : (s t : ℕ) → s ≡ t → one_if s t ≡ 1
 one_same s t p = cond-true (eqb s t) 1 0 (eq-eqb s t p)

@@ -8,7 +8,7 @@ use Rattle.history.proofs.Extension.{cuts_extend}
 use Rattle.history.proofs.Occurs.{occurs_front, occurs_grows, stands_before, stands_after, stands_find}
 use Rattle.history.specs.Clocks.{Clock, missing, of_event, larger, OneClock, Reaches}
 use Rattle.history.specs.Cuts.{Cut, Closed, Passes, ClocksPrecede}
-use Rattle.history.specs.Histories.{History, There, awaits, count, wait}
+use Rattle.history.specs.Histories.{History, There, awaits, wait}
 use Rattle.history.specs.Notes.{Made}
 use Rattle.history.specs.Orders.{Compatible, Stands, Earlier, occurs, number_at}
 

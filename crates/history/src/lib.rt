@@ -1,4 +1,6 @@
 // The events of a batch sheet as plain values, and every reason for which a call is turned away.
+#![tactic(auto)]
+
 ghost use Rattle.std.specs.Prelude.{◌≡◌};
 ghost use Rattle.history.specs.Refusals.{number as numbered};
 

@@ -1,4 +1,6 @@
 // Reads batch.run and prints what it holds.
+#![tactic(auto)]
+
 mod text;
 
 use sheet::Sheet;

@@ -1,4 +1,6 @@
 // Monitors: automata over events that a judge runs over a sheet's orders.
+#![tactic(auto)]
+
 mod bytes;
 mod combine;
 mod fill;

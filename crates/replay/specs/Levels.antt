@@ -1,5 +1,4 @@
 -- What a level of combinations means, in terms of the level below.
-use Rattle.std.specs.Prelude.{ℕ}
 use Rattle.monitor.specs.Combinations.{either, both, only}
 use Rattle.monitor.specs.Laws.{either_lawful, both_lawful, only_lawful}
 use Rattle.monitor.specs.Meanings.{Meaning, Lawful}

@@ -1,4 +1,6 @@
 // Runs scripts of library calls from standard input and prints how many agreed with their expected answers.
+#![tactic(auto)]
+
 mod call;
 mod desk;
 mod level;

@@ -7,7 +7,7 @@ use Rattle.history.specs.declared.Refused.{Refused}
 use Rattle.monitor.specs.declared.guard.Guard.{Guard}
 use Rattle.formula.proofs.Bits.{number_bits}
 use Rattle.formula.proofs.Reading.{future_few, past_few}
-use Rattle.formula.specs.Automata.{number_of, bits_of, value, values, end_bits, mirrored, future, future_step, past, past_next, past_step}
+use Rattle.formula.specs.Automata.{number_of, bits_of, value, values, end_bits, mirrored, future_step, past_next, past_step}
 use Rattle.formula.specs.Formulas.{Future, Past, items}
 use Rattle.formula.specs.Lines.{future_line, past_line}
 use Rattle.rule.specs.Held.{steps_ahead, leads_back, steps_back, states_of}

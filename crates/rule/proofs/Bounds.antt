@@ -1,5 +1,5 @@
 -- The numbers of a pass and of reading stay small: one more for each item.
-use Rattle.std.proofs.Common.{◌≡◌, ℕ, suc, ◌+◌, ◌-◌, ◌*◌, ◌/◌, ◌^◌, ◌<◌, ◌≤◌, Bool, true, false, cond, not, ◌&&◌, ◌||◌, eqb, ltb, leb, List, Ok, Err, Result, pow-suc, arith}
+use Rattle.std.proofs.Common.{ℕ, suc, ◌-◌, ◌/◌, ◌^◌, ◌<◌, ◌≤◌, Bool, true, false, cond, not, ◌&&◌, ◌||◌, eqb, ltb, leb, List, Ok, Err, Result, pow-suc, arith}
 use Rattle.history.specs.Histories.{nth}
 use Rattle.history.specs.declared.Label.{Label}
 use Rattle.monitor.specs.declared.guard.Guard.{Guard}

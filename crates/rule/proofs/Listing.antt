@@ -1,5 +1,5 @@
 -- Guards are listed one by one: all are there and lawful, or the first that is not stands for all.
-use Rattle.std.proofs.Common.{◌≡◌, ℕ, ◌+◌, ◌*◌, ◌<◌, ◌≤◌, Bool, true, false, cond, ◌&&◌, leb, List, length, Some, None, sym, refl, ap, ◌∙◌, ap₂, ⊎_elim, arith}
+use Rattle.std.proofs.Common.{◌≡◌, ℕ, ◌+◌, ◌*◌, ◌<◌, Bool, true, false, ◌&&◌, leb, List, length, Some, None, sym, ap, ◌∙◌, ap₂, ⊎_elim, arith}
 use mathlib.Core.Bool.{and-false}
 use Rattle.std.proofs.lemmas.Bool.{and_parts, leb-true, leb-false, le-leb, lt-leb, cases_Bool, cond-true, cond-false}
 use Rattle.history.proofs.Nth.{same_some}

@@ -1,6 +1,6 @@
 -- Reading a line by counting values and bits answers as reading its formula, and comes to the formula's bits behind the last
 -- position.
-use Rattle.std.proofs.Common.{◌≡◌, ℕ, suc, ◌+◌, ◌-◌, ◌^◌, ◌<◌, ◌≤◌, Bool, true, false, cond, ◌&&◌, ◌||◌, eqb, ltb, leb, List, [], ◌∷◌, ◌++◌, length, Some, None, Ok, Err, Option, Result, sym, refl, ap, ◌∙◌, subst, ⊎_elim, arith}
+use Rattle.std.proofs.Common.{◌≡◌, ℕ, suc, ◌+◌, ◌-◌, ◌^◌, ◌<◌, ◌≤◌, Bool, true, false, cond, ◌&&◌, eqb, ltb, leb, List, [], ◌∷◌, ◌++◌, length, Some, None, Ok, Err, Option, Result, sym, refl, ap, ◌∙◌, subst, ⊎_elim, arith}
 use mathlib.Core.Path.{fun_ext}
 use Rattle.std.proofs.lemmas.List.{length-append, append_assoc, append-nil}
 use Rattle.std.proofs.lemmas.Bool.{ne_eqb, lt-ltb, le-ltb, cases_Bool, cond-true, cond-false, and_parts, leb-true, leb-false, true≢false}
@@ -11,11 +11,11 @@ use Rattle.history.specs.declared.Refusal.TheVariants.{UnknownItem, MissingOpera
 use Rattle.history.specs.declared.Refused.{Refused}
 use Rattle.monitor.specs.declared.guard.Guard.{Guard}
 use Rattle.formula.specs.Automata.{number_of, end_bits, mirrored}
-use Rattle.formula.specs.Formulas.{Future, Past, items}
+use Rattle.formula.specs.Formulas.{Future, Past}
 use Rattle.formula.specs.Lines.{Item, gives, takes_one, takes_two, named, letter_item, future_item, past_item, Reading, counted, taken, known, go_on, single, read_items, unread, future_line, past_line}
 use Rattle.rule.proofs.Valuing.{behind, at}
 use Rattle.rule.specs.declared.progress.Progress.{Progress}
-use Rattle.rule.specs.Outlines.{takes, counts, then_counts, stepped, closed, outlined, untaken}
+use Rattle.rule.specs.Outlines.{takes, then_counts, stepped, closed, outlined, untaken}
 use Rattle.rule.specs.Outlines.{gives as given}
 
 module _ {X : Type 0} (plain : X → Future) where

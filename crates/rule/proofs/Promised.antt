@@ -1,5 +1,5 @@
 -- Every rule line keeps the promise, by its invariant.
-use Rattle.std.proofs.Common.{◌≡◌, ℕ, Bool, true, false, ◌↔◌, List, ◌∷◌, take, Ok, Err, Result, sym, refl, ap, ◌∙◌, subst}
+use Rattle.std.proofs.Common.{◌≡◌, ℕ, Bool, true, false, ◌↔◌, List, ◌∷◌, take, Ok, Err, Result, sym, refl, ap, subst}
 use Rattle.std.proofs.lemmas.Bool.{false≢true}
 use Rattle.history.specs.declared.Label.{Label}
 use Rattle.history.specs.declared.Refused.{Refused}

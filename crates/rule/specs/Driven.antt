@@ -1,5 +1,5 @@
 -- The promise of a rule line: its monitor can be driven to a bad state exactly when its line does not hold.
-use Rattle.std.specs.Prelude.{◌≡◌, ◌↔◌, List, ◌∷◌, Ok, Err}
+use Rattle.std.specs.Prelude.{◌≡◌, ◌↔◌, List, ◌∷◌, Ok}
 use Rattle.history.specs.declared.Label.{Label}
 use Rattle.monitor.specs.Meanings.{Drives}
 use Rattle.formula.specs.Sequences.{Holds, HoldsThroughout}

@@ -6,7 +6,6 @@ use Rattle.history.specs.declared.Refused.{Refused}
 use Rattle.monitor.specs.Guards.{guard_at}
 use Rattle.monitor.specs.Tables.{all_below, guard_lawful}
 use Rattle.monitor.specs.declared.guard.Guard.{Guard}
-use Rattle.formula.specs.Automata.{future, past}
 use Rattle.formula.specs.Formulas.{Future, Past}
 use Rattle.formula.specs.Lines.{future_line, past_line}
 

@@ -1,5 +1,5 @@
 -- What a rule line holds and means, and that what it means is lawful.
-use Rattle.std.specs.Prelude.{◌≡◌, ℕ, ◌+◌, ◌^◌, ◌<◌, ◌≤◌, Bool, true, false, ◌&&◌, List, [], ◌∷◌, length, Ok, Err, Result, ◌==◌, nat_lt, refl}
+use Rattle.std.specs.Prelude.{◌≡◌, ℕ, ◌^◌, ◌<◌, ◌≤◌, Bool, true, false, ◌&&◌, List, [], length, Ok, Err, Result, ◌==◌, nat_lt, refl}
 use Rattle.std.proofs.Common.{arith, pow_mono, sym, ap, ◌∙◌, subst}
 use Rattle.history.specs.declared.Refused.{Refused}
 use Rattle.monitor.specs.Meanings.{Meaning, Lawful}

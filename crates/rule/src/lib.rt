@@ -1,4 +1,6 @@
 // Rule lines: read from a rule file into a monitor.
+#![tactic(auto)]
+
 mod automaton;
 mod file;
 mod line;

@@ -1,9 +1,9 @@
 -- The clocks of a sheet say which event comes earlier in every compatible order.
-use Rattle.std.proofs.Common.{◌≡◌, ℕ, ◌<◌, Bool, true, false, cond, not, ◌&&◌, ◌==◌, leb, List, get_or, Some, Ok, Decides, Option, sym, refl, ◌∙◌, subst, arith}
+use Rattle.std.proofs.Common.{◌≡◌, ℕ, ◌<◌, Bool, true, false, not, ◌&&◌, ◌==◌, leb, List, get_or, Some, Ok, Decides, Option, sym, ◌∙◌, subst, arith}
 use mathlib.Core.Bool.{Bool-set}
 use mathlib.Core.Logic.{∥∥₁_elim}
 use Rattle.std.proofs.lemmas.Bool.Decides.{Decides-and, Decides-eqb, Decides-not}
-use Rattle.std.proofs.lemmas.Bool.{and_parts, and_from, and_left, le-leb, leb-true, true≢false}
+use Rattle.std.proofs.lemmas.Bool.{and_parts, and_from, and_left, le-leb, leb-true}
 use Rattle.history.proofs.Noted.{on_sheet}
 use Rattle.history.proofs.Precedes.{within_earlier, earlier_within}
 use Rattle.history.specs.Clocks.{Clocked, OneClock}

@@ -1,4 +1,6 @@
 // The batch sheet: the events of up to eight stations with their waits and their vector clocks.
+#![tactic(auto)]
+
 mod calls;
 mod clocks;
 mod readers;

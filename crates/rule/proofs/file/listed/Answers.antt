@@ -1,4 +1,4 @@
-use Rattle.std.proofs.Common.{◌≡◌, ℕ, suc, ◌+◌, ◌<◌, [], ◌∷◌, ◌++◌, length, take, set, sym, refl, ap, ◌∙◌, ap₂, arith, take-suc-set}
+use Rattle.std.proofs.Common.{◌≡◌, suc, ◌+◌, ◌<◌, [], ◌∷◌, ◌++◌, length, take, set, sym, refl, ap, ◌∙◌, ap₂, arith, take-suc-set}
 use Rattle.std.proofs.lemmas.List.{length-set}
 use Rattle.rule.specs.RuleFiles.{guards_of}
 use Rattle.rule.proofs.Listing.{one_more, none_more}

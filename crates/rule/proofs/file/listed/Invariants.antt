@@ -1,4 +1,4 @@
-use Rattle.std.proofs.Common.{◌≡◌, ◌≤◌, true, length, take}
+use Rattle.std.proofs.Common.{◌≡◌, true, length, take}
 use Rattle.rule.specs.Parts.{all_listed}
 use Rattle.rule.specs.RuleFiles.{guards_of}
 use Rattle.rule.proofs.file.listed.Given as goal

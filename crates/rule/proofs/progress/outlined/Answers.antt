@@ -1,8 +1,6 @@
-use Rattle.std.proofs.Common.{◌≡◌, ℕ, suc, ◌+◌, List, get_or, drop, Ok, Err, Result, sym, ap, ◌∙◌, subst, arith}
+use Rattle.std.proofs.Common.{◌≡◌, suc, ◌+◌, get_or, drop, Ok, Err, sym, ap, ◌∙◌, subst, arith}
 use Rattle.std.proofs.lemmas.List.{at_drop_more, at_drop_all}
-use Rattle.history.specs.declared.Refused.{Refused}
 use Rattle.formula.specs.Lines.{go_on}
-use Rattle.rule.specs.declared.progress.Progress.{Progress}
 use Rattle.rule.specs.Outlines.{outlined, stepped}
 use Rattle.rule.proofs.Bounds.{Modest, ModestIf, stepped_modest}
 use Rattle.rule.proofs.progress.outlined.Goals as goal

@@ -1,4 +1,4 @@
-use Rattle.std.proofs.Common.{◌≡◌, ◌<◌, cond, take, sym, ap, ◌∙◌, subst}
+use Rattle.std.proofs.Common.{◌<◌, cond, take, sym, ap, ◌∙◌, subst}
 use Rattle.rule.specs.Held.{held, steps_back, steps_ahead}
 use Rattle.rule.proofs.Answered.{steps_are}
 use Rattle.rule.proofs.automaton.RuleLineMonitor.steps.Goals as goal

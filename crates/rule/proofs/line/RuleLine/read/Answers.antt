@@ -1,4 +1,4 @@
-use Rattle.std.proofs.Common.{◌≡◌, sym, ap, ◌∙◌, subst, rules}
+use Rattle.std.proofs.Common.{sym, ap, ◌∙◌, subst, rules}
 use Rattle.rule.specs.Driven.{RuleDriven}
 use Rattle.rule.specs.RuleFiles.{and_then, formula_of, rule_of, told}
 use Rattle.rule.proofs.Promised.{line_promised}
