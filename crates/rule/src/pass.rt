@@ -1,7 +1,7 @@
 // One pass over the items of a line at one event, the judge's innermost work.
 ghost use Rattle.std.specs.Prelude.{◌≡◌, ◌-◌, ◌^◌, ◌<◌, ◌≤◌, length};
 ghost use Rattle.history.specs.Histories.{nth};
-ghost use Rattle.rule.specs.Passes.{triggered as triggered_by, last as last_of, earlier as earlier_of, looked as looked_of, push as push_of, one as one_of_lem, two as two_of, keep as keep_of, valued as valued_of, passed as passed_of, begun};
+ghost use Rattle.rule.specs.Passes.{triggered as triggered_by, last as last_of, earlier as earlier_of, looked as looked_of, push as push_of, one as one_of, two as two_of, keep as keep_of, valued as valued_of, passed as passed_of, begun};
 
 use history::Label;
 use monitor::Guard;
@@ -60,7 +60,7 @@ impl Pass {
     }
 
     fn one(self, value: bool) -> Pass
-        ensures { result ≡ one_of_lem self value }
+        ensures { result ≡ one_of self value }
     {
         Pass {
             stack: value as u64 + 2 * (self.stack / 2),
