@@ -7,12 +7,12 @@ use Rattle.sheet.proofs.clocks.merged.Goals as goal
 -- one place more holds the larger count
 one_place : (a b all : List ℕ) (i m : ℕ) → length a ≡ 8 → length b ≡ 8 → i < 8
     → (length all ≡ 8)
-        × ((k : ℕ) → k < i → get_or all k 0 ≡ get_or (larger a b) k 0)
-        × ((k : ℕ) → i ≤ k → get_or all k 0 ≡ get_or a k 0)
+    × ((k : ℕ) → k < i → get_or all k 0 ≡ get_or (larger a b) k 0)
+    × ((k : ℕ) → i ≤ k → get_or all k 0 ≡ get_or a k 0)
     → m ≡ max (get_or all i 0) (get_or b i 0)
     → (length (set all i m) ≡ 8)
-        × ((k : ℕ) → k < i + 1 → get_or (set all i m) k 0 ≡ get_or (larger a b) k 0)
-        × ((k : ℕ) → i + 1 ≤ k → get_or (set all i m) k 0 ≡ get_or a k 0)
+    × ((k : ℕ) → k < i + 1 → get_or (set all i m) k 0 ≡ get_or (larger a b) k 0)
+    × ((k : ℕ) → i + 1 ≤ k → get_or (set all i m) k 0 ≡ get_or a k 0)
 one_place a b all i m la lb l (long, below, above) is = (
   length-set all i m ∙ long,
   below_more _ i
