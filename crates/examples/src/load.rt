@@ -1,5 +1,5 @@
 // Load: run files that are taken and run files that are turned away.
-use crate::told::{sets, size, told};
+use crate::told::{id, sets, size, told};
 use history::{Event, Wait};
 use sheet::Sheet;
 
@@ -25,14 +25,14 @@ fn a_run_file_becomes_the_sheet(rt: HostRuntime) {
         count: 1,
     };
     assert_eq!(rt;
-        sheet.event(1, 1),
+        sheet.event(id(1, 1)),
         Some(Event {
             variable: 1,
             value: -2,
             wait,
         })
     );
-    assert_eq!(rt; sheet.clock(1, 1), Some([1, 1, 0, 0, 0, 0, 0, 0]));
+    assert_eq!(rt; sheet.clock(id(1, 1)), Some([1, 1, 0, 0, 0, 0, 0, 0]));
 }
 
 // Every file cut short answers its refusal and leaves the sheet, but for those that end behind a whole record.

@@ -1,5 +1,5 @@
 // Open, note and reach.
-use crate::told::{sets, size, told};
+use crate::told::{id, sets, size, told};
 use history::{Event, Wait};
 use sheet::Sheet;
 
@@ -33,9 +33,9 @@ fn reach_counts_what_came_before_for_certain(rt: HostRuntime) {
     assert_eq!(rt; told(sheet.note(0, sets(0, 0, 0))), (0, 0));
     assert_eq!(rt; told(sheet.note(1, sets(1, 0, 1))), (0, 0));
     let mut counts = [9; 8];
-    assert_eq!(rt; told(sheet.reach(1, 1, &mut counts)), (0, 0));
+    assert_eq!(rt; told(sheet.reach(id(1, 1), &mut counts)), (0, 0));
     assert_eq!(rt; counts, [1, 1, 0, 0, 0, 0, 0, 0]);
-    assert_eq!(rt; told(sheet.reach(0, 1, &mut counts)), (0, 0));
+    assert_eq!(rt; told(sheet.reach(id(0, 1), &mut counts)), (0, 0));
     assert_eq!(rt; counts, [1, 0, 0, 0, 0, 0, 0, 0]);
 }
 
@@ -45,10 +45,10 @@ fn reach_of_an_event_that_is_not_there(rt: HostRuntime) {
     let mut sheet = Sheet::new();
     assert_eq!(rt; told(sheet.note(0, sets(0, 0, 0))), (0, 0));
     let mut counts = [9; 8];
-    assert_eq!(rt; told(sheet.reach(0, 0, &mut counts)), (10, 0));
-    assert_eq!(rt; told(sheet.reach(0, 2, &mut counts)), (10, 0));
-    assert_eq!(rt; told(sheet.reach(1, 1, &mut counts)), (10, 0));
-    assert_eq!(rt; told(sheet.reach(255, 255, &mut counts)), (10, 0));
+    assert_eq!(rt; told(sheet.reach(id(0, 0), &mut counts)), (10, 0));
+    assert_eq!(rt; told(sheet.reach(id(0, 2), &mut counts)), (10, 0));
+    assert_eq!(rt; told(sheet.reach(id(1, 1), &mut counts)), (10, 0));
+    assert_eq!(rt; told(sheet.reach(id(255, 255), &mut counts)), (10, 0));
     assert_eq!(rt; counts, [9; 8]);
 }
 
@@ -120,12 +120,12 @@ fn an_event_is_kept_as_it_was_noted(rt: HostRuntime) {
         },
     };
     assert_eq!(rt; told(sheet.note(0, event)), (0, 0));
-    assert_eq!(rt; sheet.event(0, 1), Some(event));
-    assert_eq!(rt; sheet.event(0, 0), None);
-    assert_eq!(rt; sheet.event(0, 2), None);
-    assert_eq!(rt; sheet.event(1, 1), None);
-    assert_eq!(rt; sheet.clock(0, 1), Some([1, 0, 0, 0, 0, 0, 0, 0]));
-    assert_eq!(rt; sheet.clock(0, 2), None);
+    assert_eq!(rt; sheet.event(id(0, 1)), Some(event));
+    assert_eq!(rt; sheet.event(id(0, 0)), None);
+    assert_eq!(rt; sheet.event(id(0, 2)), None);
+    assert_eq!(rt; sheet.event(id(1, 1)), None);
+    assert_eq!(rt; sheet.clock(id(0, 1)), Some([1, 0, 0, 0, 0, 0, 0, 0]));
+    assert_eq!(rt; sheet.clock(id(0, 2)), None);
     assert_eq!(rt; sheet.events(0), 1);
     assert_eq!(rt; sheet.events(1), 0);
 }

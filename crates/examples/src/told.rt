@@ -1,5 +1,5 @@
 // What a call told its caller.
-use history::{Event, Refused, Wait};
+use history::{Event, EventId, Refused, Wait};
 use sheet::Sheet;
 
 // Number and place of a refusal; 0 at 0 where there is none.
@@ -18,6 +18,10 @@ pub fn sets(variable: u8, station: u8, count: u8) -> Event {
         value: 1,
         wait,
     }
+}
+
+pub fn id(station: u8, number: u8) -> EventId {
+    EventId { station, number }
 }
 
 // Stations and events of the sheet.

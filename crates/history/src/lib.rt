@@ -14,14 +14,14 @@ pub use laws::{
 pub use shown::Counts;
 
 // What an event waits for: the first `count` events of `station`. Count 0 waits for nothing.
-#[derive(Clone, Copy, PartialEq, Eq, Debug)]
+#[derive(Clone, Copy, PartialEq, Eq, Debug, Default)]
 pub struct Wait {
     pub station: u8,
     pub count: u8,
 }
 
 // One event of a station: the variable that it sets, the value, and its wait.
-#[derive(Clone, Copy, PartialEq, Eq, Debug)]
+#[derive(Clone, Copy, PartialEq, Eq, Debug, Default)]
 pub struct Event {
     pub variable: u8,
     pub value: i32,
@@ -46,30 +46,30 @@ pub struct Label {
 // Why a call is turned away.
 #[derive(Clone, Copy, Debug)]
 pub enum Refusal {
-    NotARunFile,
-    RunVersion,
-    StationCount,
-    PartialRecord,
-    NoSuchStation,
-    VariableRange,
-    StationFull,
-    AwaitedStation,
-    AwaitedCount,
-    NoSuchEvent,
-    NotARuleFile,
-    RuleVersion,
-    GuardList,
-    LineShape,
-    UnknownItem,
-    MissingOperand,
-    TooManyTemporalItems,
-    UnusedValue,
-    BadTable,
-    NoStates,
-    NoEvents,
-    TooManyConfigurations,
-    ScratchTooShort,
-    OrderTooShort,
+    NotARunFile = 1,
+    RunVersion = 2,
+    StationCount = 3,
+    PartialRecord = 4,
+    NoSuchStation = 5,
+    VariableRange = 6,
+    StationFull = 7,
+    AwaitedStation = 8,
+    AwaitedCount = 9,
+    NoSuchEvent = 10,
+    NotARuleFile = 11,
+    RuleVersion = 12,
+    GuardList = 13,
+    LineShape = 14,
+    UnknownItem = 15,
+    MissingOperand = 16,
+    TooManyTemporalItems = 17,
+    UnusedValue = 18,
+    BadTable = 19,
+    NoStates = 20,
+    NoEvents = 21,
+    TooManyConfigurations = 22,
+    ScratchTooShort = 23,
+    OrderTooShort = 24,
 }
 
 // A refusal with its place: a record's number, a byte's index or a length, else 0.
@@ -84,31 +84,16 @@ impl Refusal {
     pub fn number(self) -> u8
         ensures { result ≡ numbered self }
     {
-        match self {
-            Refusal::NotARunFile => 1,
-            Refusal::RunVersion => 2,
-            Refusal::StationCount => 3,
-            Refusal::PartialRecord => 4,
-            Refusal::NoSuchStation => 5,
-            Refusal::VariableRange => 6,
-            Refusal::StationFull => 7,
-            Refusal::AwaitedStation => 8,
-            Refusal::AwaitedCount => 9,
-            Refusal::NoSuchEvent => 10,
-            Refusal::NotARuleFile => 11,
-            Refusal::RuleVersion => 12,
-            Refusal::GuardList => 13,
-            Refusal::LineShape => 14,
-            Refusal::UnknownItem => 15,
-            Refusal::MissingOperand => 16,
-            Refusal::TooManyTemporalItems => 17,
-            Refusal::UnusedValue => 18,
-            Refusal::BadTable => 19,
-            Refusal::NoStates => 20,
-            Refusal::NoEvents => 21,
-            Refusal::TooManyConfigurations => 22,
-            Refusal::ScratchTooShort => 23,
-            Refusal::OrderTooShort => 24,
+        self as u8
+    }
+
+    // The refusal with that place.
+    pub fn at(self, place: u16) -> Refused
+        ensures { result ≡ record { refusal = self; place = place } }
+    {
+        Refused {
+            refusal: self,
+            place,
         }
     }
 }
@@ -118,6 +103,6 @@ impl From<Refusal> for Refused {
     ghost from_gives = { λ why r. r ≡ record { refusal = why; place = 0 } };
 
     fn from(refusal: Refusal) -> Refused {
-        Refused { refusal, place: 0 }
+        refusal.at(0)
     }
 }

@@ -3,6 +3,7 @@
 
 mod text;
 
+use history::EventId;
 use sheet::Sheet;
 use std::fs::File;
 use std::io::Read;
@@ -26,10 +27,8 @@ fn show(rt: &HostRuntime, sheet: &Sheet) -> anyhow::Result<()> {
     rt.println(text::heading(heap, sheet)?)?;
     for station in 0..sheet.stations() {
         for number in 1..=sheet.events(station) {
-            if let (Some(event), Some(clock)) = (
-                sheet.event(station, number),
-                sheet.clock(station, number),
-            ) {
+            let id = EventId { station, number };
+            if let (Some(event), Some(clock)) = (sheet.event(id), sheet.clock(id)) {
                 rt.println(text::event(heap, station, number, event, clock)?)?;
             }
         }

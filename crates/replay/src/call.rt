@@ -18,7 +18,7 @@ pub enum SheetCall {
     Open(u8),
     Note(u8, Event),
     Load(Vec<u8>),
-    Reach(u8, u8),
+    Reach(EventId),
     Precedes(EventId, EventId),
 }
 
@@ -91,15 +91,11 @@ fn event(station: &str, number: &str) -> Option<EventId> {
     })
 }
 
-fn reach(event: EventId) -> SheetCall {
-    SheetCall::Reach(event.station, event.number)
-}
-
 fn numbers(name: &str, words: &[&str]) -> Option<SheetCall> {
     match words {
         [n] if name == "sheet" => Some(SheetCall::Choose(n.parse().ok()?)),
         [n] if name == "open" => Some(SheetCall::Open(n.parse().ok()?)),
-        [s, n] if name == "reach" => Some(reach(event(s, n)?)),
+        [s, n] if name == "reach" => Some(SheetCall::Reach(event(s, n)?)),
         [s, n, t, k] if name == "precedes" => Some(SheetCall::Precedes(event(s, n)?, event(t, k)?)),
         _ => None,
     }

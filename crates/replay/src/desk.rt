@@ -1,6 +1,6 @@
 // The two sheets of a script, and what the calls on them answer.
 use crate::call::SheetCall;
-use history::{Counts, Refused};
+use history::{Counts, EventId, Refused};
 use sheet::Sheet;
 use std::alloc::{AllocError, Global};
 
@@ -44,9 +44,9 @@ impl Desk {
         }
     }
 
-    fn reach(&self, heap: Global, station: u8, number: u8) -> Result<String, AllocError> {
+    fn reach(&self, heap: Global, event: EventId) -> Result<String, AllocError> {
         let mut clock = [0; 8];
-        match self.sheet.reach(station, number, &mut clock) {
+        match self.sheet.reach(event, &mut clock) {
             Ok(()) => Counts(clock).to_string(heap),
             Err(why) => why.to_string(heap),
         }
@@ -62,7 +62,7 @@ impl Desk {
             SheetCall::Open(count) => done(heap, self.sheet.open(count)),
             SheetCall::Note(station, event) => done(heap, self.sheet.note(station, event)),
             SheetCall::Load(file) => done(heap, self.sheet.load(&file)),
-            SheetCall::Reach(station, number) => self.reach(heap, station, number),
+            SheetCall::Reach(event) => self.reach(heap, event),
             SheetCall::Precedes(first, second) => decided(heap, self.sheet.precedes(first, second)),
         }
     }

@@ -10,7 +10,6 @@ use Rattle.history.specs.Clocks.{Clocked, OneClock}
 use Rattle.history.specs.Histories.{History}
 use Rattle.history.specs.Precedence.{Has, AlwaysEarlier, Preceded}
 use Rattle.history.specs.declared.EventId.{EventId}
-use Rattle.sheet.proofs.Accepts.{fits}
 use Rattle.sheet.proofs.Held.{held_length}
 use Rattle.sheet.specs.Sheets.{history}
 use Rattle.sheet.specs.declared.types.Sheet.{Sheet}
@@ -28,7 +27,7 @@ event_there h e o v k p = subst (Clocked h e.station e.number) p k
 
 pub station_on : (sheet : Sheet) (e : EventId) → Has (history sheet) e → e.station < 8
 station_on sheet e l =
-    omega (arith, on_sheet (history sheet) e.station e.number l, held_length sheet.stations sheet.table (fits sheet), sheet.few)
+    omega (arith, on_sheet (history sheet) e.station e.number l, held_length sheet.table, sheet.few)
 
 module _ (sheet : Sheet) (a b : EventId) (u v : List ℕ)
     (first : Has (history sheet) a × OneClock (history sheet) a.station a.number u)

@@ -1,21 +1,46 @@
 -- The rows of a table as lists.
-use Rattle.std.proofs.Common.{◌≡◌, ℕ, zero, suc, ◌<◌, min, List, [], ◌∷◌, map, length, get_or, take, sym, refl, ap, ◌∙◌, ⊎_elim, arith}
-use Rattle.std.proofs.lemmas.List.{take_all}
-use Rattle.std.proofs.lemmas.Bool.{cases_lt}
+use Rattle.std.proofs.Common.{◌≡◌, ℕ, zero, suc, ◌≤◌, List, [], ◌∷◌, ◌++◌, map, take, drop, length, get_or, max, EachIndex, Some, None, Option, sym, refl, ap, ◌∙◌, arith}
+use Rattle.std.specs.Borrow.{Bor}
+use Rattle.std.specs.List.{slice_get, refill}
+use Rattle.std.specs.Option.{option_copied}
+use Rattle.std.specs.Slice.{IsItemAt}
+use Rattle.std.proofs.Math.Seq.{take-append_seam}
+use Rattle.std.proofs.lemmas.List.{get_or_past, length-map, ext_get_or}
+use Rattle.std.proofs.lemmas.Option.{slice_get_past, slice_get_read}
+use Rattle.history.proofs.Clocks.{get_or_larger, length_larger}
+use Rattle.history.specs.Clocks.{larger}
+use Rattle.history.specs.Histories.{nth}
 use Rattle.sheet.specs.Tables.{filled, row}
 use Rattle.sheet.specs.declared.table.Table.{Table}
 
-pub take_min : {A : Type 0} (n k : ℕ) (xs : List A) → length xs ≡ k → take (min n k) xs ≡ take n xs
-take_min n k xs p = ⊎_elim
-    (λ (l : n < k). ap (λ m. take m xs) (omega arith))
-    (λ l. take_all (min n k) xs (omega arith) ∙ sym (take_all n xs (omega arith)))
-    (cases_lt n k)
-
-get_or_map_default : {A B : Type 0} (f : A → B) (xs : List A) (i : ℕ) (d : A) → get_or (map f xs) i (f d) ≡ f (get_or xs i d)
+pub get_or_map_default : {A B : Type 0} (f : A → B) (xs : List A) (i : ℕ) (d : A) → get_or (map f xs) i (f d) ≡ f (get_or xs i d)
 get_or_map_default f [] i d = refl
 get_or_map_default f (x ∷ xs) zero d = refl
 get_or_map_default f (x ∷ xs) (suc i) d = get_or_map_default f xs i d
 
--- the row of a station, as an index into the table reads it
-pub row_is : (t : Table) (s : ℕ) → row t s ≡ filled (get_or t.stations s record { slots = []; len = 0 })
-row_is t s = get_or_map_default filled t.stations s record { slots = []; len = 0 }
+pub nth_get : {A : Type 0} (xs : List A) (n : ℕ) → nth xs (suc n) ≡ slice_get xs n
+nth_get [] n = refl
+nth_get (x ∷ xs) zero = refl
+nth_get (x ∷ xs) (suc n) = nth_get xs n
+
+-- what a look-up lends is the element there
+pub get_copied : {A : Type 0} (xs : List A) (i : ℕ) (r : Option (Bor A)) → IsItemAt xs i r → option_copied r ≡ slice_get xs i
+get_copied xs i None is = sym (slice_get_past xs i is.3)
+get_copied xs i (Some x) is = sym (slice_get_read xs (length xs) i x.now refl is.3.0 is.1)
+
+-- a station that is not there has no slot
+pub row_past : (t : Table) (s : ℕ) → length t.stations.items ≤ s → row t s ≡ []
+row_past t s l = get_or_past (map filled t.stations.items) s [] (omega (arith, length-map t.stations.items filled))
+
+-- larger counts at each place are the larger clock
+pub larger_each : (a b v : List ℕ) → length a ≡ 8 → length b ≡ 8 → length v ≡ 8
+    → EachIndex v (λ k. get_or v k 0 ≡ max (get_or a k 0) (get_or b k 0))
+    → v ≡ larger a b
+larger_each a b v la lb lv each =
+    ext_get_or 0 v (larger a b)
+    (lv ∙ sym la ∙ sym (length_larger a b (la ∙ sym lb)))
+    (λ k h. each k h ∙ sym (get_or_larger a b (la ∙ sym lb) k))
+
+-- a list written over by another of its length is the other
+pub refilled : {A : Type 0} (xs ws : List A) → length xs ≡ length ws → refill (length xs) xs ws ≡ ws
+refilled xs ws p = ap (λ n. take n (ws ++ drop (length ws) xs)) p ∙ take-append_seam ws (drop (length ws) xs)

@@ -7,7 +7,7 @@ use Rattle.sheet.specs.Tables.{held}
 use Rattle.sheet.specs.declared.types.Sheet.{Sheet}
 
 abbrev pub history : Sheet → History
-history s = held s.stations s.table
+history s = held s.table
 
 -- records noted in turn: the history after them, or the first refusal
 abbrev pub NotedAll : History → List ℕ → History → Result (Unit {0}) Refused → Type 0

@@ -1,5 +1,6 @@
 -- What a table holds.
-use Rattle.std.specs.Prelude.{◌≡◌, ℕ, suc, ◌<◌, List, [], map, length, take, replicate, Some, None, Option, slice_index_or, slice_set}
+use Rattle.std.specs.Prelude.{◌≡◌, ℕ, suc, List, [], map, length, Some, None, Option, slice_index_or, slice_set}
+use Rattle.std.specs.List.{sum_by}
 use Rattle.history.specs.Clocks.{Clock, larger, zeros}
 use Rattle.history.specs.Histories.{History, nth}
 use Rattle.history.specs.declared.Event.{Event}
@@ -8,29 +9,33 @@ use Rattle.sheet.specs.declared.table.Slot.{Slot}
 use Rattle.sheet.specs.declared.table.Station.{Station}
 use Rattle.sheet.specs.declared.table.Table.{Table}
 
--- the slots of a station that hold its events
 abbrev pub filled : Station → List Slot
-filled s = take s.len s.slots
+filled s = s.slots.items
 
 abbrev pub rows : Table → List (List Slot)
-rows t = map filled t.stations
+rows t = map filled t.stations.items
 
+-- the slots of station s; none where it is not there
 abbrev pub row : Table → ℕ → List Slot
 row t s = slice_index_or (rows t) s []
 
-abbrev pub blank : List (List Slot)
-blank = replicate 8 []
+-- how many slots all stations have
+abbrev pub slot_count : Table → ℕ
+slot_count t = sum_by (λ s. length (filled s)) t.stations.items
 
 abbrev pub event_in : Slot → Event
 event_in x = x.event
 
--- the history that the first n rows hold
-abbrev pub held : ℕ → Table → History
-held n t = map (map event_in) (take n (rows t))
+abbrev pub clock_in : Slot → List ℕ
+clock_in x = x.clock
+
+-- the history that the rows hold
+abbrev pub held : Table → History
+held t = map (map event_in) (rows t)
 
 -- the clock kept with each event is its clock
-abbrev pub Kept : ℕ → Table → Type 0
-Kept n t = (s k : ℕ) (x : Slot) → s < n → nth (row t s) k ≡ Some x → Clock (held n t) s k x.clock
+abbrev pub Kept : Table → Type 0
+Kept t = (s k : ℕ) (x : Slot) → nth (row t s) k ≡ Some x → Clock (held t) s k x.clock
 
 -- the clock kept in a slot; all zeros where there is none
 abbrev pub counts : Option Slot → List ℕ

@@ -7,23 +7,13 @@ ghost use Rattle.history.specs.Precedence.{Preceded};
 ghost use Rattle.history.specs.RunFiles.{load_answer, loaded, told};
 ghost use Rattle.sheet.specs.Sheets.{history, NotedAll};
 
-use crate::run_file::{STATIONS, header};
-use crate::table::{EVENTS, Slot, Table};
+use crate::run_file::header;
+use crate::table::{EVENTS, STATIONS, Slot, Table};
 use crate::types::Sheet;
 use history::{Event, EventId, Refusal, Refused, Wait};
 
 // The largest variable.
 const VARIABLES: u8 = 31;
-
-// An answer with the place of its refusal.
-fn placed(answer: Result<(), Refusal>, place: u16) -> Result<(), Refused>
-    ensures { result ≡ at_place place answer }
-{
-    match answer {
-        Ok(()) => Ok(()),
-        Err(refusal) => Err(Refused { refusal, place }),
-    }
-}
 
 impl Sheet {
     // A sheet of one station without an event.
@@ -39,8 +29,7 @@ impl Sheet {
         ensures { history result ≡ opened count }
     {
         Sheet {
-            stations: count,
-            table: Table::new(),
+            table: Table::new(count),
         }
     }
 
@@ -58,7 +47,7 @@ impl Sheet {
         if event.variable > VARIABLES {
             return Err(Refusal::VariableRange);
         }
-        if self.events(station) >= EVENTS {
+        if self.events(station) as usize >= EVENTS {
             return Err(Refusal::StationFull);
         }
         if awaited >= self.stations() || count == 0 && awaited != 0 {
@@ -96,7 +85,7 @@ impl Sheet {
         ensures after { history self.new ≡ after_open (history self.old) count }
         ensures kept { is_err result ≡ true → self.new ≡ self.old }
     {
-        if count < 1 || count > STATIONS {
+        if count < 1 || count as usize > STATIONS {
             Err(Refusal::StationCount)?;
         }
         *self = Sheet::empty(count);
@@ -118,22 +107,21 @@ impl Sheet {
         requires { total (history self.old) ≡ 0 }
         ensures { NotedAll (history self.old) records.now (history self.new) result }
     {
-        let mut rest = records;
-        let mut number = 0;
-        while let [station, variable, a, b, c, d, awaited, count, tail @ ..] = rest {
-            number += 1;
+        let (chunks, _) = records.as_chunks::<8>();
+        for (k, record) in chunks.iter().enumerate() {
+            let number = k as u16 + 1;
+            let [station, variable, a, b, c, d, awaited, count] = *record;
             let wait = Wait {
-                station: *awaited,
-                count: *count,
+                station: awaited,
+                count,
             };
-            let value = i32::from_be_bytes([*a, *b, *c, *d]);
             let event = Event {
-                variable: *variable,
-                value,
+                variable,
+                value: i32::from_be_bytes([a, b, c, d]),
                 wait,
             };
-            placed(self.put(*station, event), number)?;
-            rest = tail;
+            self.put(station, event)
+                .map_err(|refusal| refusal.at(number))?;
         }
         Ok(())
     }
@@ -152,11 +140,11 @@ impl Sheet {
         Ok(())
     }
 
-    // Writes the clock of the station's event of that number into the place lent.
-    pub fn reach(&self, station: u8, number: u8, counts: &mut [u8; 8]) -> Result<(), Refused>
-        ensures { Reached (history self.now) station number counts.old counts.new result }
+    // Writes the event's clock into the place lent.
+    pub fn reach(&self, event: EventId, counts: &mut [u8; 8]) -> Result<(), Refused>
+        ensures { Reached (history self.now) event.station event.number counts.old counts.new result }
     {
-        *counts = self.clock(station, number).ok_or(Refusal::NoSuchEvent)?;
+        *counts = self.clock(event).ok_or(Refusal::NoSuchEvent)?;
         Ok(())
     }
 
@@ -164,11 +152,8 @@ impl Sheet {
     pub fn precedes(&self, first: EventId, second: EventId) -> Result<bool, Refused>
         ensures { Preceded (history self.now) first second result }
     {
-        self.clock(first.station, first.number)
-            .ok_or(Refusal::NoSuchEvent)?;
-        let reach = self
-            .clock(second.station, second.number)
-            .ok_or(Refusal::NoSuchEvent)?;
+        self.clock(first).ok_or(Refusal::NoSuchEvent)?;
+        let reach = self.clock(second).ok_or(Refusal::NoSuchEvent)?;
         Ok(first != second && first.number <= reach[first.station as usize])
     }
 }

@@ -1,14 +1,11 @@
 // Vector clocks as arrays of eight counts.
-ghost use Rattle.std.specs.Prelude.{◌≡◌};
-ghost use Rattle.history.specs.Clocks.{larger};
+ghost use Rattle.std.specs.Prelude.{◌≡◌, max, EachIndex, slice_index};
+
+use std::array;
 
 // The larger count at each place.
 pub(crate) fn merged(a: [u8; 8], b: [u8; 8]) -> [u8; 8]
-    ensures { result ≡ larger a b }
+    ensures { EachIndex result (λ k. slice_index result k ≡ max (slice_index a k) (slice_index b k)) }
 {
-    let mut all = a;
-    for i in 0..8 {
-        all[i] = all[i].max(b[i]);
-    }
-    all
+    array::from_fn(|i| a[i].max(b[i]))
 }

@@ -1,15 +1,13 @@
 // Run files: the mark RUN, a version, a station count, and records.
 ghost use Rattle.sheet.specs.Headers.{Header};
 
+use crate::table::STATIONS;
 use history::Refusal;
 
 const VERSION: u16 = 1;
 
 // The bytes of a record.
 const RECORD: usize = 8;
-
-// The most stations of a sheet.
-pub(crate) const STATIONS: u8 = 8;
 
 // The file's station count and the bytes of its records.
 pub(crate) fn header(file: &[u8]) -> Result<(u8, &[u8]), Refusal>
@@ -21,7 +19,7 @@ pub(crate) fn header(file: &[u8]) -> Result<(u8, &[u8]), Refusal>
     if u16::from_be_bytes([*high, *low]) != VERSION {
         return Err(Refusal::RunVersion);
     }
-    if *stations < 1 || *stations > STATIONS {
+    if *stations < 1 || *stations as usize > STATIONS {
         return Err(Refusal::StationCount);
     }
     if records.len() % RECORD != 0 {

@@ -1,120 +1,104 @@
-// The table of a sheet: for each of eight stations its events with their clocks. Plain values, without an invariant.
-ghost use Rattle.std.specs.Prelude.{◌≡◌, ◌<◌, ◌≤◌, [], ◌∷◌, ◌++◌, length, slice_set};
+// The table of a sheet: for each station its events with their clocks. Plain values, without an invariant.
+ghost use Rattle.std.specs.Prelude.{◌≡◌, ◌<◌, ◌≤◌, [], ◌∷◌, ◌++◌, length, replicate, slice_set};
 ghost use Rattle.history.specs.Histories.{nth};
-ghost use Rattle.sheet.specs.Tables.{filled, rows, row, blank, counts, next_clock};
+ghost use Rattle.sheet.specs.Tables.{rows, row, slot_count, counts, next_clock};
 
 use crate::clocks::merged;
-use history::{Event, Wait};
+use arrayvec::ArrayVec;
+use history::{Event, EventId, Wait};
 
-// The most events of a station.
-pub(crate) const EVENTS: u8 = 64;
+// The most events of a station, and the most stations.
+pub(crate) const EVENTS: usize = 64;
+
+pub(crate) const STATIONS: usize = 8;
 
 // An event and its clock.
-#[derive(Clone, Copy)]
+#[derive(Clone, Copy, Default)]
 pub(crate) struct Slot {
     pub(crate) event: Event,
     pub(crate) clock: [u8; 8],
 }
 
-// The first `len` slots hold the station's events.
-#[derive(Clone, Copy)]
+// The events of a station, the first event first.
+#[derive(Default, Drop)]
 pub(crate) struct Station {
-    slots: [Slot; 64],
-    len: u8,
+    slots: ArrayVec<Slot, EVENTS>,
 }
 
-#[derive(Clone, Copy)]
+#[derive(Drop)]
 pub(crate) struct Table {
-    stations: [Station; 8],
+    stations: ArrayVec<Station, STATIONS>,
 }
 
 impl Station {
-    fn empty() -> Station
-        ensures { filled result ≡ [] }
-    {
-        let wait = Wait {
-            station: 0,
-            count: 0,
-        };
-        let event = Event {
-            variable: 0,
-            value: 0,
-            wait,
-        };
-        let slot = Slot {
-            event,
-            clock: [0; 8],
-        };
-        Station {
-            slots: [slot; 64],
-            len: 0,
-        }
-    }
-
-    fn held(&self) -> &[Slot]
-        ensures is { result.now ≡ filled self.now }
-        ensures few { length result.now ≤ 64 }
-    {
-        &self.slots[0..self.len.min(EVENTS) as usize]
-    }
-
     fn events(&self) -> u8
-        ensures { result ≡ length (filled self.now) }
+        ensures is { result ≡ length self.now.slots.items }
+        ensures few { result ≤ 64 }
     {
-        self.held().len() as u8
+        self.slots.len() as u8
     }
 
+    // The slot of the event of that number, counted from 1.
     fn slot(&self, number: u8) -> Option<Slot>
-        ensures { result ≡ nth (filled self.now) number }
+        ensures { result ≡ nth self.now.slots.items number }
     {
-        let held = self.held();
-        if number == 0 || number as usize > held.len() {
-            return None;
-        }
-        Some(held[number as usize - 1])
-    }
-
-    fn push(&mut self, slot: Slot)
-        requires { length (filled self.old) < 64 }
-        ensures { filled self.new ≡ filled self.old ++ slot ∷ [] }
-    {
-        self.slots[self.len as usize] = slot;
-        self.len += 1;
+        let index = number.checked_sub(1)?;
+        self.slots.get(index as usize).copied()
     }
 }
 
 impl Table {
-    // Eight stations without an event.
-    pub(crate) fn new() -> Table
-        ensures { rows result ≡ blank }
+    // That many stations without an event.
+    pub(crate) fn new(count: u8) -> Table
+        requires { count ≤ 8 }
+        ensures { rows result ≡ replicate count [] }
     {
-        Table {
-            stations: [Station::empty(); 8],
+        let mut stations = ArrayVec::new();
+        for _ in 0..count {
+            stations.push(Station::default());
         }
+        Table { stations }
     }
 
-    // How many events the station holds.
+    // How many stations there are.
+    pub(crate) fn stations(&self) -> u8
+        ensures { result ≡ length (rows self.now) }
+    {
+        self.stations.len() as u8
+    }
+
+    // How many events the station holds: none where it is not there.
     pub(crate) fn events(&self, station: u8) -> u8
-        requires { station < 8 }
-        ensures { result ≡ length (row self.now station) }
+        ensures is { result ≡ length (row self.now station) }
+        ensures few { result ≤ 64 }
     {
-        self.stations[station as usize].events()
+        self.stations
+            .get(station as usize)
+            .map_or(0, Station::events)
     }
 
-    // The slot of the station's event of that number, counted from 1.
-    pub(crate) fn slot(&self, station: u8, number: u8) -> Option<Slot>
-        requires { station < 8 }
-        ensures { result ≡ nth (row self.now station) number }
+    // How many events all stations hold.
+    pub(crate) fn total(&self) -> u16
+        ensures { result ≡ slot_count self.now }
     {
-        self.stations[station as usize].slot(number)
+        self.stations
+            .iter()
+            .map(|station| u16::from(station.events()))
+            .sum()
     }
 
-    // The clock of the station's event of that number, all zeros where it is not there.
-    pub(crate) fn clock(&self, station: u8, number: u8) -> [u8; 8]
-        requires { station < 8 }
-        ensures { result ≡ counts (nth (row self.now station) number) }
+    pub(crate) fn slot(&self, event: EventId) -> Option<Slot>
+        ensures { result ≡ nth (row self.now event.station) event.number }
     {
-        match self.slot(station, number) {
+        let station = self.stations.get(event.station as usize)?;
+        station.slot(event.number)
+    }
+
+    // The event's clock, all zeros where it is not there.
+    fn clock(&self, event: EventId) -> [u8; 8]
+        ensures { result ≡ counts (nth (row self.now event.station) event.number) }
+    {
+        match self.slot(event) {
             Some(slot) => slot.clock,
             None => [0; 8],
         }
@@ -122,14 +106,15 @@ impl Table {
 
     // The clock of the station's next event, with that wait.
     pub(crate) fn next_clock(&self, station: u8, wait: Wait) -> [u8; 8]
-        requires there { station < 8 }
-        requires awaited { wait.station < 8 }
-        requires room { length (row self.now station) < 64 }
+        requires { station < 8 }
         ensures { result ≡ next_clock self.now station wait }
     {
         let number = self.events(station);
-        let previous = self.clock(station, number);
-        let awaited = self.clock(wait.station, wait.count);
+        let previous = self.clock(EventId { station, number });
+        let awaited = self.clock(EventId {
+            station: wait.station,
+            number: wait.count,
+        });
         let mut clock = merged(previous, awaited);
         clock[station as usize] = number + 1;
         clock
@@ -137,11 +122,11 @@ impl Table {
 
     // One slot more at the end of the station.
     pub(crate) fn push(&mut self, station: u8, slot: Slot)
-        requires there { station < 8 }
+        requires there { station < length (rows self.old) }
         requires room { length (row self.old station) < 64 }
         ensures { rows self.new ≡ slice_set (rows self.old) station (row self.old station ++ slot ∷ []) }
     {
         let one = &mut self.stations[station as usize];
-        one.push(slot);
+        one.slots.push(slot);
     }
 }

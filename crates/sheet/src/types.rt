@@ -8,11 +8,9 @@ use crate::table::Table;
 // The events of 1 to 8 stations. It has a fixed size and owns no memory.
 #[derive(Drop)]
 pub struct Sheet {
-    pub(crate) stations: u8,
     pub(crate) table: Table,
-    ghost some: { 1 ≤ stations },
-    ghost few: { stations ≤ 8 },
-    ghost eight: { length (rows table) ≡ 8 },
-    ghost made: { ∥ Made (held stations table) ∥₁ },
-    ghost clocks: { ∥ Kept stations table ∥₁ },
+    ghost some: { 1 ≤ length (rows table) },
+    ghost few: { length (rows table) ≤ 8 },
+    ghost made: { ∥ Made (held table) ∥₁ },
+    ghost clocks: { ∥ Kept table ∥₁ },
 }

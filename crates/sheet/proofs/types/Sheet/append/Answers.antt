@@ -1,27 +1,25 @@
-use Rattle.sheet.proofs.Accepts.{station_below, awaited_below, room, appended, appended_eight, appended_made, appended_kept}
+use Rattle.std.proofs.Common.{arith}
+use Rattle.sheet.proofs.Accepts.{there, station_below, room, appended, appended_length, appended_made, appended_kept}
 use Rattle.sheet.proofs.types.Sheet.append.Goals as goal
 
 pub next_clock-clock-requires : goal.next_clock-clock-requires
-next_clock-clock-requires c = record {
-  there = station_below c.args.self.now c.args.station c.args.event c.requires;
-  awaited = awaited_below c.args.self.now c.args.station c.args.event c.requires;
-  room = room c.args.self.now c.args.station c.args.event c.requires;
-}
+next_clock-clock-requires c = station_below c.args.self.now c.args.station c.args.event c.requires
 
 pub push-requires : goal.push-requires
 push-requires c = record {
-  there = station_below c.args.self.now c.args.station c.args.event c.requires;
+  there = there c.args.self.now c.args.station c.args.event c.requires;
   room = room c.args.self.now c.args.station c.args.event c.requires;
 }
 
 pub invariant_of-self : goal.invariant_of-self
-invariant_of-self c = record {
-  some = c.args.self.now.some;
-  few = c.args.self.now.few;
-  eight = appended_eight c.args.self.now c.args.station c.args.event c.requires c.push.new.self _ c.push.ensures c.next_clock-clock.ensures;
-  made = appended_made c.args.self.now c.args.station c.args.event c.requires c.push.new.self _ c.push.ensures c.next_clock-clock.ensures;
-  clocks = appended_kept c.args.self.now c.args.station c.args.event c.requires c.push.new.self _ c.push.ensures c.next_clock-clock.ensures;
-}
+invariant_of-self c =
+    let long = appended_length c.args.self.now c.args.station c.args.event c.requires c.push.new.self _ c.push.ensures c.next_clock-clock.ensures in
+    record {
+      some = omega (arith, long, c.args.self.now.some);
+      few = omega (arith, long, c.args.self.now.few);
+      made = appended_made c.args.self.now c.args.station c.args.event c.requires c.push.new.self _ c.push.ensures c.next_clock-clock.ensures;
+      clocks = appended_kept c.args.self.now c.args.station c.args.event c.requires c.push.new.self _ c.push.ensures c.next_clock-clock.ensures;
+    }
 
 pub returns : goal.returns
 returns c =
