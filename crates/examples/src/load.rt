@@ -2,11 +2,12 @@
 use crate::told::{id, sets, size, told};
 use history::{Event, Wait};
 use sheet::Sheet;
+use std::process::Abort;
 
 // Two stations; the second's event awaits the first's.
-const FILE: [u8; 22] = [
-    82, 85, 78, 0, 1, 2, 0, 0, 0, 0, 0, 1, 0, 0, 1, 1, 255, 255, 255, 254, 0, 1,
-];
+const FILE: &[u8; 22] = b"RUN\0\x01\x02\
+    \0\0\0\0\0\x01\0\0\
+    \x01\x01\xff\xff\xff\xfe\0\x01";
 
 // A sheet that holds something of its own.
 fn used() -> Sheet {
@@ -18,7 +19,7 @@ fn used() -> Sheet {
 #[test]
 fn a_run_file_becomes_the_sheet(rt: HostRuntime) {
     let mut sheet = used();
-    assert_eq!(rt; told(sheet.load(&FILE)), (0, 0));
+    assert_eq!(rt; told(sheet.load(FILE)), Ok(()));
     assert_eq!(rt; size(&sheet), (2, 2));
     let wait = Wait {
         station: 0,
@@ -39,71 +40,65 @@ fn a_run_file_becomes_the_sheet(rt: HostRuntime) {
 #[test]
 fn truncations(rt: HostRuntime) {
     for n in 0..FILE.len() {
-        let mut sheet = used();
-        let answer = told(sheet.load(&FILE[0..n]));
-        if n < 6 {
-            assert_eq!(rt; answer, (1, 0));
-            assert_eq!(rt; size(&sheet), (1, 1));
-        } else if n == 6 || n == 14 {
-            assert_eq!(rt; answer, (0, 0));
-        } else {
-            assert_eq!(rt; answer, (4, 0));
-            assert_eq!(rt; size(&sheet), (1, 1));
-        }
+        let expected = match n {
+            0..=5 => Err((1, 0)),
+            6 | 14 => Ok(()),
+            _ => Err((4, 0)),
+        };
+        assert_eq!(rt; loaded(&rt, &FILE[..n]), expected);
     }
 }
 
-// One byte of the file changed: what load answers then.
-fn with(at: usize, byte: u8) -> (u8, u16) {
-    let mut file = FILE;
-    if at < file.len() {
-        file[at] = byte;
-    }
+// What load answers on a used sheet, which a refusal leaves.
+fn loaded(rt: &impl Abort, file: &[u8]) -> Result<(), (u8, u16)> {
     let mut sheet = used();
-    let answer = told(sheet.load(&file));
-    if answer.0 != 0 && size(&sheet) != (1, 1) {
-        return (255, 0);
-    }
+    let answer = told(sheet.load(file));
+    assert!(rt; answer.is_ok() || size(&sheet) == (1, 1));
     answer
+}
+
+// One byte of the file changed: what load answers then.
+fn with(rt: &impl Abort, at: usize, byte: u8) -> Result<(), (u8, u16)> {
+    let mut file = *FILE;
+    if let Some(place) = file.get_mut(at) {
+        *place = byte;
+    }
+    loaded(rt, &file)
 }
 
 #[test]
 fn a_wrong_byte_of_the_header(rt: HostRuntime) {
-    assert_eq!(rt; with(0, 114), (1, 0));
-    assert_eq!(rt; with(1, 0), (1, 0));
-    assert_eq!(rt; with(2, 76), (1, 0));
-    assert_eq!(rt; with(3, 1), (2, 0));
-    assert_eq!(rt; with(4, 0), (2, 0));
-    assert_eq!(rt; with(4, 2), (2, 0));
-    assert_eq!(rt; with(5, 0), (3, 0));
-    assert_eq!(rt; with(5, 9), (3, 0));
+    assert_eq!(rt; with(&rt, 0, 114), Err((1, 0)));
+    assert_eq!(rt; with(&rt, 1, 0), Err((1, 0)));
+    assert_eq!(rt; with(&rt, 2, 76), Err((1, 0)));
+    assert_eq!(rt; with(&rt, 3, 1), Err((2, 0)));
+    assert_eq!(rt; with(&rt, 4, 0), Err((2, 0)));
+    assert_eq!(rt; with(&rt, 4, 2), Err((2, 0)));
+    assert_eq!(rt; with(&rt, 5, 0), Err((3, 0)));
+    assert_eq!(rt; with(&rt, 5, 9), Err((3, 0)));
 }
 
 #[test]
 fn a_wrong_byte_of_a_record(rt: HostRuntime) {
-    assert_eq!(rt; with(6, 2), (5, 1));
-    assert_eq!(rt; with(7, 32), (6, 1));
-    assert_eq!(rt; with(12, 1), (8, 1));
-    assert_eq!(rt; with(13, 1), (9, 1));
-    assert_eq!(rt; with(14, 2), (5, 2));
-    assert_eq!(rt; with(15, 32), (6, 2));
-    assert_eq!(rt; with(20, 2), (8, 2));
-    assert_eq!(rt; with(21, 2), (9, 2));
-    assert_eq!(rt; with(21, 0), (0, 0));
+    assert_eq!(rt; with(&rt, 6, 2), Err((5, 1)));
+    assert_eq!(rt; with(&rt, 7, 32), Err((6, 1)));
+    assert_eq!(rt; with(&rt, 12, 1), Err((8, 1)));
+    assert_eq!(rt; with(&rt, 13, 1), Err((9, 1)));
+    assert_eq!(rt; with(&rt, 14, 2), Err((5, 2)));
+    assert_eq!(rt; with(&rt, 15, 32), Err((6, 2)));
+    assert_eq!(rt; with(&rt, 20, 2), Err((8, 2)));
+    assert_eq!(rt; with(&rt, 21, 2), Err((9, 2)));
+    assert_eq!(rt; with(&rt, 21, 0), Ok(()));
 }
 
 // 64 events of one station, and one more.
 #[test]
 fn a_file_with_a_65th_event(rt: HostRuntime) {
     let mut file = [0u8; 526];
-    file[0] = 82;
-    file[1] = 85;
-    file[2] = 78;
-    file[4] = 1;
-    file[5] = 1;
+    file[..6].copy_from_slice(b"RUN\0\x01\x01");
     let mut sheet = used();
-    assert_eq!(rt; told(sheet.load(&file)), (7, 65));
+    assert_eq!(rt; told(sheet.load(&file)), Err((7, 65)));
     assert_eq!(rt; size(&sheet), (1, 1));
-    assert_eq!(rt; told(sheet.load(&file[0..518])), (0, 0));
+    assert_eq!(rt; told(sheet.load(&file[..518])), Ok(()));
     assert_eq!(rt; size(&sheet), (1, 64));
 }

@@ -30,11 +30,6 @@ impl Monitor for Seen {
         if from >= 2 || to >= 2 {
             return false;
         }
-        let next = if from == 1 || event.variable == self.variable {
-            1
-        } else {
-            0
-        };
-        to == next
+        to == u16::from(from == 1 || event.variable == self.variable)
     }
 }

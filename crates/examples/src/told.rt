@@ -2,12 +2,13 @@
 use history::{Event, EventId, Refused, Wait};
 use sheet::Sheet;
 
-// Number and place of a refusal; 0 at 0 where there is none.
-pub fn told(answer: Result<(), Refused>) -> (u8, u16) {
-    match answer {
-        Ok(()) => (0, 0),
-        Err(refused) => (refused.refusal.number(), refused.place),
-    }
+// The answer, with number and place of its refusal.
+pub fn told<T>(answer: Result<T, Refused>) -> Result<T, (u8, u16)> {
+    answer.map_err(|refused| (refused.refusal.number(), refused.place))
+}
+
+pub fn id(station: u8, number: u8) -> EventId {
+    EventId { station, number }
 }
 
 // An event that sets a variable to 1 and awaits the first `count` events of a station.
@@ -18,10 +19,6 @@ pub fn sets(variable: u8, station: u8, count: u8) -> Event {
         value: 1,
         wait,
     }
-}
-
-pub fn id(station: u8, number: u8) -> EventId {
-    EventId { station, number }
 }
 
 // Stations and events of the sheet.

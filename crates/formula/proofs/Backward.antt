@@ -1,8 +1,8 @@
 -- A past formula at an index of a sequence is its mirror image, a future formula, on what came up to there, read backward.
 use Rattle.std.proofs.Common.{◌≡◌, ℕ, zero, suc, ◌+◌, ◌-◌, ◌<◌, ◌≤◌, Bool, true, false, List, [], ◌∷◌, length, drop, Some, Decides, sym, refl, ap, ◌∙◌, subst, arith}
+use Rattle.std.proofs.lemmas.Option.{same_Some}
 use Rattle.std.proofs.lemmas.List.{drop-drop}
 use Rattle.std.proofs.lemmas.Bool.Decides.{Decides-not, Decides-and, Decides-or, Decides-like}
-use Rattle.history.proofs.Nth.{same_some}
 use Rattle.history.specs.Histories.{nth}
 use Rattle.history.specs.declared.Label.{Label}
 use Rattle.monitor.specs.Guards.{triggers}
@@ -56,7 +56,7 @@ decides_letter : (g : Guard) (w : List Label) (i : ℕ) → i < length w → Dec
 decides_letter g w i l =
     let n = newest [] w i l in (
       λ p. record { event = n.0; at = n.3; triggered = sym (ap (first g) n.2) ∙ p },
-      λ t. ap (first g) n.2 ∙ ap (triggers g) (same_some n.0 t.event (sym n.3 ∙ t.at)) ∙ t.triggered,
+      λ t. ap (first g) n.2 ∙ ap (triggers g) (same_Some n.0 t.event (sym n.3 ∙ t.at)) ∙ t.triggered,
     )
 
 -- a test of what is read backward, as a fact

@@ -1,8 +1,8 @@
 -- The meaning of a future formula decided by a recursion over the sequence.
 use Rattle.std.proofs.Common.{◌≡◌, ℕ, zero, suc, ◌<◌, Bool, true, false, not, ◌&&◌, ◌||◌, List, [], ◌∷◌, length, drop, Decides, sym, refl, ap, ◌∙◌, ⊎_elim, arith}
+use Rattle.std.proofs.lemmas.Option.{same_Some}
 use Rattle.std.proofs.lemmas.Bool.{and_parts, and_from, or_cases, or_left, or_right, true≢false}
 use Rattle.std.proofs.lemmas.Bool.Decides.{Decides-not, Decides-and, Decides-or, Decides-at}
-use Rattle.history.proofs.Nth.{same_some}
 use Rattle.history.specs.declared.Label.{Label}
 use Rattle.monitor.specs.Guards.{triggers}
 use Rattle.monitor.specs.declared.guard.Guard.{Guard}
@@ -50,7 +50,7 @@ decides_first : (g : Guard) (w : List Label) → Decides (first g w) (Triggered 
 decides_first g [] = (λ p. absurd (true≢false (sym p)), λ t. let z : ◌≡◌ {A = ℕ} 0 1 = cc t.at in absurd (omega arith))
 decides_first g (e ∷ w) = (
   λ p. record { event = e; at = refl; triggered = p },
-  λ t. ap (triggers g) (same_some e t.event t.at) ∙ t.triggered,
+  λ t. ap (triggers g) (same_Some e t.event t.at) ∙ t.triggered,
 )
 
 module _ (p : List Label → Bool) (P : List Label → Type 0) (each : (w : List Label) → Decides (p w) (P w)) where

@@ -1,6 +1,7 @@
 -- Sequences of steps from cut to cut, each of an event whose awaited ones are done; and that those from the empty cut to the
 -- full one are the compatible orders.
 use Rattle.std.proofs.Common.{◌≡◌, ℕ, zero, suc, ◌+◌, ◌<◌, ◌≤◌, List, [], ◌∷◌, ◌++◌, length, get_or, take, sym, refl, ap, ◌∙◌, add-zero, zero-add, arith}
+use Rattle.std.proofs.Math.Nat.{add_assoc}
 use Rattle.history.proofs.Occurs.{one_same}
 use Rattle.history.specs.Cuts.{Cut, nothing_done, advance, AwaitedDone}
 use Rattle.history.specs.Histories.{History, awaits, count, wait}
@@ -32,9 +33,6 @@ pub run_counts : {h : History} {c d : Cut} {o : List ℕ} → Run h c o d → (t
 run_counts (stop p) t = omega (arith, p t)
 run_counts (step {s = s} a r) t = omega (arith, run_counts r t)
 
-pub regroup : (x y z : ℕ) → x + (y + z) ≡ (x + y) + z
-regroup x y z = omega arith
-
 -- what each position of a run awaits is done before it
 pub run_waits : {h : History} {c d : Cut} {o : List ℕ} → Run h c o d → (i : ℕ) → i < length o → (t : ℕ)
     → awaits (wait h (get_or o i 0) (suc (c (get_or o i 0) + occurs (get_or o i 0) (take i o)))) t ≤ c t + occurs t (take i o)
@@ -44,7 +42,7 @@ run_waits {h} {c} (step {s = s} a r) zero l t =
 run_waits {h} {c} (step {s = s} {o = o} a r) (suc i) l t =
     omega (
       arith,
-      ap (λ n. awaits (wait h (get_or o i 0) (suc n)) t) (regroup (c (get_or o i 0)) (one_if s (get_or o i 0)) (occurs (get_or o i 0) (take i o))),
+      ap (λ n. awaits (wait h (get_or o i 0) (suc n)) t) (sym (add_assoc (c (get_or o i 0)) (one_if s (get_or o i 0)) (occurs (get_or o i 0) (take i o)))),
       run_waits r i (omega arith) t,
     )
 
@@ -62,7 +60,7 @@ run_from h c d (s ∷ o) most each waits = step
     (run_from h (advance c s) d o most (λ t. omega (arith, each t)) (λ i l t.
     omega (
       arith,
-      ap (λ n. awaits (wait h (get_or o i 0) (suc n)) t) (regroup (c (get_or o i 0)) (one_if s (get_or o i 0)) (occurs (get_or o i 0) (take i o))),
+      ap (λ n. awaits (wait h (get_or o i 0) (suc n)) t) (sym (add_assoc (c (get_or o i 0)) (one_if s (get_or o i 0)) (occurs (get_or o i 0) (take i o)))),
       waits (suc i) (omega arith) t,
     )))
 

@@ -3,6 +3,7 @@
 
 mod text;
 
+use crate::text::{EventLine, Heading};
 use history::EventId;
 use sheet::Sheet;
 use std::fs::File;
@@ -16,20 +17,15 @@ fn read(rt: &HostRuntime, path: &str) -> Option<Vec<u8>> {
     let mut bytes = Vec::new(rt.alloc());
     let file = File::open(rt, path).ok()?;
     file.take(LIMIT as u64 + 1).read_to_end(&mut bytes).ok()?;
-    if bytes.len() > LIMIT {
-        return None;
-    }
-    Some(bytes)
+    (bytes.len() <= LIMIT).then_some(bytes)
 }
 
 fn show(rt: &HostRuntime, sheet: &Sheet) -> anyhow::Result<()> {
-    let heap = rt.alloc();
-    rt.println(text::heading(heap, sheet)?)?;
+    rt.println(Heading::of(sheet))?;
     for station in 0..sheet.stations() {
         for number in 1..=sheet.events(station) {
-            let id = EventId { station, number };
-            if let (Some(event), Some(clock)) = (sheet.event(id), sheet.clock(id)) {
-                rt.println(text::event(heap, station, number, event, clock)?)?;
+            if let Some(line) = EventLine::of(sheet, EventId { station, number }) {
+                rt.println(line)?;
             }
         }
     }

@@ -1,4 +1,5 @@
 pub mod Below
+pub mod Records
 pub mod Tables
 pub mod EitherDriven
 pub mod BothDriven

@@ -7,6 +7,7 @@ use Rattle.monitor.specs.Guards.{guard_at, triggers}
 use Rattle.monitor.specs.Meanings.{Meaning}
 use Rattle.monitor.specs.declared.bytes.Arc.{Arc}
 use Rattle.monitor.specs.declared.guard.Guard.{Guard}
+use Rattle.monitor.specs.declared.parts.Parts.{Parts}
 
 -- the number of states, the initial one, a mask with bit k for a bad state k, and the bytes of guards and arcs
 pub record Description : Type 0 where
@@ -15,6 +16,10 @@ pub record Description : Type 0 where
   pub bad : ℕ
   pub guards : List ℕ
   pub arcs : List ℕ
+
+-- what a table's parts describe
+abbrev pub description : Parts → Description
+description p = record { states = p.states; initial = p.initial; bad = p.bad; guards = p.guards.now; arcs = p.arcs.now }
 
 -- it holds of every, of some number below n
 abbrev pub all_below : ℕ → (ℕ → Bool) → Bool

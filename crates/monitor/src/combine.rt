@@ -1,6 +1,7 @@
 // Combinations of monitors: either, both, and only the events of some variables.
-ghost use Rattle.std.specs.Prelude.{◌≡◌};
-ghost use Rattle.monitor.specs.Combinations.{limited as limit, either, both, only, hears};
+ghost use Rattle.std.specs.Prelude.{◌≡◌, ◌*◌};
+ghost use Rattle.monitor.specs.Combinations.{limited, either, both, only, hears};
+ghost use Rattle.monitor.specs.Numbering.{part_of, pair_of, sum_sizes, product_sizes};
 ghost use Rattle.monitor.specs.Driven.{EitherDriven, BothDriven, OnlyDriven};
 ghost use Rattle.monitor.specs.Laws.{either_lawful, both_lawful, only_lawful};
 
@@ -10,14 +11,55 @@ use history::Label;
 // The most states of a monitor.
 const STATES: u32 = 4096;
 
-// The size of a combination of monitors with so many states, which would have `size`.
-fn limited(left: u16, right: u16, size: u32) -> u16
-    ensures { result ≡ limit left right size }
-{
-    if left == 0 || right == 0 || size > STATES {
-        return 0;
+// How many states the two parts of a combination have, and how many the whole has.
+#[derive(Clone, Copy)]
+struct Sizes {
+    left: u16,
+    right: u16,
+    whole: u16,
+}
+
+// A state of one of two parts.
+#[derive(Clone, Copy)]
+enum Part {
+    Left(u16),
+    Right(u16),
+}
+
+impl Sizes {
+    // Of a combination over parts with so many states, which would have `size`.
+    // Kept: 0 is no flag. By the rule of the interface a combination that is too large is a monitor without states.
+    fn new(left: u16, right: u16, size: u32) -> Self
+        ensures { result ≡ record { left = left; right = right; whole = limited left right size } }
+    {
+        let limited = left == 0 || right == 0 || size > STATES;
+        Sizes {
+            left,
+            right,
+            whole: if limited { 0 } else { size as u16 },
+        }
     }
-    size as u16
+
+    // The part that a state belongs to where A's states come first, then B's.
+    fn part(self, state: u16) -> Option<Part>
+        ensures { result ≡ part_of self state }
+    {
+        if state >= self.whole {
+            None
+        } else if state < self.left {
+            Some(Part::Left(state))
+        } else {
+            Some(Part::Right(state - self.left))
+        }
+    }
+
+    // The states of the two parts that a state stands for where states are pairs.
+    fn pair(self, state: u16) -> Option<(u16, u16)>
+        requires { self.whole ≡ limited self.left self.right (self.left * self.right) }
+        ensures { result ≡ pair_of self state }
+    {
+        (state < self.whole).then(|| (state / self.right, state % self.right))
+    }
 }
 
 // A's states and then B's: bad where one of the two is.
@@ -34,6 +76,14 @@ impl<L: Monitor, R: Monitor> Either<L, R> {
     {
         Either { left, right }
     }
+
+    fn sizes(&self) -> Sizes
+        ensures { result ≡ sum_sizes (L.Monitor.meaning self.now.left).states (R.Monitor.meaning self.now.right).states }
+    {
+        let left = self.left.states();
+        let right = self.right.states();
+        Sizes::new(left, right, u32::from(left) + u32::from(right))
+    }
 }
 
 impl<L: Monitor, R: Monitor> Monitor for Either<L, R> {
@@ -42,42 +92,32 @@ impl<L: Monitor, R: Monitor> Monitor for Either<L, R> {
     ghost lawful = { λ c. either_lawful (L.Monitor.meaning c.left) (R.Monitor.meaning c.right) };
 
     fn states(&self) -> u16 {
-        let left = self.left.states();
-        let right = self.right.states();
-        limited(left, right, left as u32 + right as u32)
+        self.sizes().whole
     }
 
+    // Kept: the two questions name different methods of both parts, and a match says that more plainly than two closures for each.
     fn starts(&self, state: u16) -> bool {
-        let left = self.left.states();
-        if state >= self.states() {
-            false
-        } else if state < left {
-            self.left.starts(state)
-        } else {
-            self.right.starts(state - left)
+        match self.sizes().part(state) {
+            Some(Part::Left(state)) => self.left.starts(state),
+            Some(Part::Right(state)) => self.right.starts(state),
+            None => false,
         }
     }
 
     fn is_bad(&self, state: u16) -> bool {
-        let left = self.left.states();
-        if state >= self.states() {
-            false
-        } else if state < left {
-            self.left.is_bad(state)
-        } else {
-            self.right.is_bad(state - left)
+        match self.sizes().part(state) {
+            Some(Part::Left(state)) => self.left.is_bad(state),
+            Some(Part::Right(state)) => self.right.is_bad(state),
+            None => false,
         }
     }
 
     fn steps(&self, from: u16, event: Label, to: u16) -> bool {
-        let left = self.left.states();
-        let states = self.states();
-        if from >= states || to >= states {
-            false
-        } else if from < left {
-            to < left && self.left.steps(from, event, to)
-        } else {
-            to >= left && self.right.steps(from - left, event, to - left)
+        let sizes = self.sizes();
+        match (sizes.part(from), sizes.part(to)) {
+            (Some(Part::Left(from)), Some(Part::Left(to))) => self.left.steps(from, event, to),
+            (Some(Part::Right(from)), Some(Part::Right(to))) => self.right.steps(from, event, to),
+            _ => false,
         }
     }
 }
@@ -96,6 +136,14 @@ impl<L: Monitor, R: Monitor> Both<L, R> {
     {
         Both { left, right }
     }
+
+    fn sizes(&self) -> Sizes
+        ensures { result ≡ product_sizes (L.Monitor.meaning self.now.left).states (R.Monitor.meaning self.now.right).states }
+    {
+        let left = self.left.states();
+        let right = self.right.states();
+        Sizes::new(left, right, u32::from(left) * u32::from(right))
+    }
 }
 
 impl<L: Monitor, R: Monitor> Monitor for Both<L, R> {
@@ -104,29 +152,25 @@ impl<L: Monitor, R: Monitor> Monitor for Both<L, R> {
     ghost lawful = { λ c. both_lawful (L.Monitor.meaning c.left) (R.Monitor.meaning c.right) };
 
     fn states(&self) -> u16 {
-        let left = self.left.states();
-        let right = self.right.states();
-        limited(left, right, left as u32 * right as u32)
+        self.sizes().whole
     }
 
     fn starts(&self, state: u16) -> bool {
-        let right = self.right.states();
-        state < self.states() && self.left.starts(state / right) && self.right.starts(state % right)
+        self.sizes().pair(state).is_some_and(|(left, right)| self.left.starts(left)
+            && self.right.starts(right))
     }
 
     fn is_bad(&self, state: u16) -> bool {
-        let right = self.right.states();
-        state < self.states() && self.left.is_bad(state / right) && self.right.is_bad(state % right)
+        self.sizes().pair(state).is_some_and(|(left, right)| self.left.is_bad(left)
+            && self.right.is_bad(right))
     }
 
     fn steps(&self, from: u16, event: Label, to: u16) -> bool {
-        let right = self.right.states();
-        let states = self.states();
-        if from >= states || to >= states {
+        let sizes = self.sizes();
+        let (Some(from), Some(to)) = (sizes.pair(from), sizes.pair(to)) else {
             return false;
-        }
-        self.left.steps(from / right, event, to / right)
-            && self.right.steps(from % right, event, to % right)
+        };
+        self.left.steps(from.0, event, to.0) && self.right.steps(from.1, event, to.1)
     }
 }
 

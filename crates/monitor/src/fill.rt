@@ -1,79 +1,34 @@
 // How a table is filled, and its answers as a monitor.
-ghost use Rattle.std.specs.Prelude.{◌≡◌, ◌/◌, ◌<◌, true, ◌&&◌, length, is_ok, is_err};
+ghost use Rattle.std.specs.Prelude.{◌≡◌, true, is_ok, is_err};
 ghost use Rattle.history.specs.Notes.{placed as at_place};
 ghost use Rattle.monitor.specs.Described.{described};
-ghost use Rattle.monitor.specs.Tables.{all_below, guard_lawful as guard_lawful_of, arc_lawful as arc_lawful_of, arc_at, states_lawful as states_lawful_of, fill_answer, leads, moves, table as meaning_of, idle, ArcSteps};
+ghost use Rattle.monitor.specs.Tables.{fill_answer, moves, table as meaning_of, idle, ArcSteps};
 ghost use Rattle.monitor.specs.Laws.{table_lawful};
 
-use crate::bytes::{Arc, guard_lawful, read_arc, read_guard};
+use crate::bytes::{ARC, Arc, GUARD};
 use crate::interface::Monitor;
+use crate::parts::Parts;
 use crate::table::Table;
 use history::{Label, Refusal, Refused};
 
-// The most states of a table.
-const STATES: u8 = 64;
-
-// The bytes of a guard and of an arc.
-const GUARD: usize = 10;
-
-const ARC: usize = 3;
-
-// Whether every guard's outside byte is 0 or 1.
-fn guards_lawful(guards: &[u8]) -> bool
-    ensures { result ≡ all_below (length guards.now / 10) (guard_lawful_of guards.now) }
-{
-    for k in 0..guards.len() / GUARD {
-        if !guard_lawful(guards, k) {
-            return false;
-        }
-    }
-    true
-}
-
-// Whether both ends of the arc are states and its guard is listed.
-fn arc_lawful(arc: Arc, states: u8, guards: usize) -> bool
-    ensures { result ≡ arc_lawful_of states guards arc }
-{
-    arc.from < states && (arc.guard as usize) < guards && arc.to < states
-}
-
-// Whether every arc is lawful.
-fn arcs_lawful(arcs: &[u8], states: u8, guards: usize) -> bool
-    ensures { result ≡ all_below (length arcs.now / 3) (λ k. arc_lawful_of states guards (arc_at arcs.now k)) }
-{
-    for k in 0..arcs.len() / ARC {
-        if !arc_lawful(read_arc(arcs, k), states, guards) {
-            return false;
-        }
-    }
-    true
-}
-
-// Whether the states, the initial one and the mask of bad ones fit each other.
-fn states_lawful(states: u8, initial: u8, bad: u64) -> bool
-    ensures { result ≡ states_lawful_of states initial bad }
-{
-    if states < 1 || states > STATES || initial >= states {
-        return false;
-    }
-    states == STATES || bad >> states == 0
-}
-
 impl<'a> Table<'a> {
     // A table of one state, which is not bad and which every event keeps.
-    pub fn new() -> Table<'a>
+    pub fn new() -> Self
         ensures { described result ≡ idle }
     {
         Table {
-            states: 1,
-            initial: 0,
-            bad: 0,
-            guards: &[],
-            arcs: &[],
+            parts: Parts {
+                states: 1,
+                initial: 0,
+                bad: 0,
+                guards: &[],
+                arcs: &[],
+            },
         }
     }
 
     // Becomes the table of these states, initial state, mask of bad states, guards and arcs.
+    // Kept: callers give the five apart, as the public signature has it; within, they travel as one value.
     pub fn fill(
         &mut self,
         states: u8,
@@ -87,49 +42,40 @@ impl<'a> Table<'a> {
         ensures steps { ArcSteps (described self.new) }
         ensures kept { is_err result ≡ true → self.new ≡ self.old }
     {
-        let whole = guards.len() % GUARD == 0 && arcs.len() % ARC == 0;
-        if !whole
-            || !states_lawful(states, initial, bad)
-            || !guards_lawful(guards)
-            || !arcs_lawful(arcs, states, guards.len() / GUARD)
-        {
-            Err(Refusal::BadTable)?;
-        }
-        *self = Table {
+        let parts = Parts {
             states,
             initial,
             bad,
             guards,
             arcs,
         };
+        if !parts.is_lawful() {
+            return Err(Refused::from(Refusal::BadTable));
+        }
+        *self = Table { parts };
         Ok(())
     }
 }
 
 impl Table<'_> {
-    // Whether arc k leads on from the state with the event.
-    fn leads(&self, from: u8, event: Label, k: usize) -> bool
-        requires { k < length self.now.arcs.now / 3 }
-        ensures { result ≡ leads (described self.now) from event k }
-    {
-        let arc = read_arc(self.arcs, k);
-        arc.from == from && read_guard(self.guards, arc.guard as usize).triggers(event)
-    }
-
     // Whether the event takes the one state to the other: by an arc, or, where no arc leads on, to itself.
+    // Kept: by a rule of the project a loop over the arcs decides a step.
     fn moves(&self, from: u8, event: Label, to: u8) -> bool
         ensures { result ≡ moves (described self.now) from event to }
     {
-        let mut leaves = false;
-        for k in 0..self.arcs.len() / ARC {
-            if self.leads(from, event, k) {
-                if read_arc(self.arcs, k).to == to {
+        let (guards, _) = self.parts.guards.as_chunks::<GUARD>();
+        let (arcs, _) = self.parts.arcs.as_chunks::<ARC>();
+        let mut stays = from == to;
+        for bytes in arcs {
+            let arc = Arc::from(bytes);
+            if arc.leads(guards, from, event) {
+                if arc.to == to {
                     return true;
                 }
-                leaves = true;
+                stays = false;
             }
         }
-        !leaves && from == to
+        stays
     }
 }
 
@@ -139,22 +85,19 @@ impl Monitor for Table<'_> {
     ghost lawful = { λ t. table_lawful (described t) t.lawful };
 
     fn states(&self) -> u16 {
-        self.states as u16
+        u16::from(self.parts.states)
     }
 
     fn starts(&self, state: u16) -> bool {
-        state < self.states as u16 && state == self.initial as u16
+        state < self.states() && state == u16::from(self.parts.initial)
     }
 
     fn is_bad(&self, state: u16) -> bool {
-        state < self.states as u16 && (self.bad >> state) & 1 == 1
+        state < self.states() && (self.parts.bad >> state) & 1 == 1
     }
 
     fn steps(&self, from: u16, event: Label, to: u16) -> bool {
-        let states = self.states as u16;
-        if from >= states || to >= states {
-            return false;
-        }
-        self.moves(from as u8, event, to as u8)
+        let states = self.states();
+        from < states && to < states && self.moves(from as u8, event, to as u8)
     }
 }

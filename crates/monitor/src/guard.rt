@@ -5,7 +5,7 @@ ghost use Rattle.monitor.specs.Guards.{triggers as triggered};
 use history::Label;
 
 // A variable and the values that it is asked for: those from low to high, or, outside, the others.
-#[derive(Clone, Copy, Debug)]
+#[derive(Clone, Copy, Debug, Default)]
 pub struct Guard {
     pub variable: u8,
     pub low: i32,
@@ -18,7 +18,7 @@ impl Guard {
     pub fn triggers(self, event: Label) -> bool
         ensures { result ≡ triggered self event }
     {
-        let inside = self.low <= event.value && event.value <= self.high;
+        let inside = (self.low..=self.high).contains(&event.value);
         self.variable == event.variable && inside != self.outside
     }
 }

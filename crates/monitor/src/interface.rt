@@ -24,6 +24,7 @@ pub trait Monitor {
         ensures { result ≡ (meaning self.now).bad state };
 
     // Whether the event may take the one state to the other.
+    // Kept: three parameters, since a combination asks its parts about states of their own and would make a struct anew for each.
     fn steps(&self, from: u16, event: Label, to: u16) -> bool
         ensures { result ≡ (meaning self.now).step from event to };
 }

@@ -6,6 +6,7 @@ mod combine;
 mod fill;
 mod guard;
 mod interface;
+mod parts;
 mod table;
 
 pub use bytes::listed_guard;

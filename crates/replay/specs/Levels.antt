@@ -2,17 +2,18 @@
 use Rattle.monitor.specs.Combinations.{either, both, only}
 use Rattle.monitor.specs.Laws.{either_lawful, both_lawful, only_lawful}
 use Rattle.monitor.specs.Meanings.{Meaning, Lawful}
-use Rattle.replay.specs.declared.level.Kind.{Kind}
-use Rattle.replay.specs.declared.level.Kind.TheVariants.{First, Either, Both, Only}
+use Rattle.replay.specs.declared.level.Level.{Level}
+use Rattle.replay.specs.declared.level.Level.TheVariants.{One, Either, Both, Only}
 
-abbrev pub combined : Kind → Meaning → Meaning → Meaning
-combined First a b = a
-combined Either a b = either a b
-combined Both a b = both a b
-combined (Only mask) a b = only mask a
+-- the meaning of a level, from what a monitor of the level below means
+abbrev pub level : {M : Type 0} → (M → Meaning) → Level M → Meaning
+level m (One a) = m a
+level m (Either e) = either (m e.value.left) (m e.value.right)
+level m (Both b) = both (m b.value.left) (m b.value.right)
+level m (Only o) = only o.value.mask (m o.value.below)
 
-pub combined_lawful : (k : Kind) (a b : Meaning) → Lawful a → Lawful b → Lawful (combined k a b)
-combined_lawful First a b la lb = la
-combined_lawful Either a b la lb = either_lawful a b
-combined_lawful Both a b la lb = both_lawful a b
-combined_lawful (Only mask) a b la lb = only_lawful mask a la
+pub level_lawful : {M : Type 0} (m : M → Meaning) → ((a : M) → Lawful (m a)) → (l : Level M) → Lawful (level m l)
+level_lawful m law (One a) = law a
+level_lawful m law (Either e) = either_lawful (m e.value.left) (m e.value.right)
+level_lawful m law (Both b) = both_lawful (m b.value.left) (m b.value.right)
+level_lawful m law (Only o) = only_lawful o.value.mask (m o.value.below) (law o.value.below)

@@ -1,7 +1,9 @@
 // The calls of a script, read from its lines.
-use crate::recipe::TableBytes;
+use crate::recipe::{Recipe, TableBytes};
+use hex::FromHexError;
 use history::{Event, EventId, Label, Wait};
 use std::alloc::{AllocError, Global};
+use std::num::ParseIntError;
 
 // One of the four questions of a monitor.
 #[derive(Clone, Copy)]
@@ -25,10 +27,7 @@ pub enum SheetCall {
 // A call on the monitor of a name.
 #[derive(Drop)]
 pub enum MonitorCall {
-    Table(TableBytes),
-    Either(String, String),
-    Both(String, String),
-    Only(u32, String),
+    Keep(Recipe),
     Ask(Question),
 }
 
@@ -36,179 +35,142 @@ pub enum MonitorCall {
 pub enum Call {
     Sheet(SheetCall),
     Monitor(String, MonitorCall),
-    // A call that is not known here.
-    Other,
-    // A known call that cannot be read.
+}
+
+// Why a line makes no call.
+#[derive(Debug, Drop)]
+pub enum ReadError {
+    // It names no call that is known here.
+    Unknown,
+    // It names one, and its other words are not what that call takes.
     Unreadable,
+    Memory(AllocError),
 }
 
-fn digit(c: u8) -> Option<u8> {
-    match c {
-        b'0'..=b'9' => Some(c - b'0'),
-        b'a'..=b'f' => Some(c - b'a' + 10),
-        _ => None,
+impl From<AllocError> for ReadError {
+    fn from(error: AllocError) -> ReadError {
+        ReadError::Memory(error)
     }
 }
 
-// Bytes as two digits each; a lone `-` stands for none.
-fn bytes(heap: Global, text: &str) -> Result<Option<Vec<u8>>, AllocError> {
-    let mut all = Vec::new(heap);
+impl From<ParseIntError> for ReadError {
+    fn from(_error: ParseIntError) -> ReadError {
+        ReadError::Unreadable
+    }
+}
+
+impl From<FromHexError> for ReadError {
+    fn from(_error: FromHexError) -> ReadError {
+        ReadError::Unreadable
+    }
+}
+
+// Bytes as two lower-case digits each; a lone `-` stands for none.
+fn bytes(heap: Global, text: &str) -> Result<Vec<u8>, ReadError> {
     if text == "-" {
-        return Ok(Some(all));
+        return Ok(Vec::new(heap));
     }
-    for pair in text.as_bytes().chunks(2) {
-        let [high, low] = pair else {
-            return Ok(None);
-        };
-        let (Some(high), Some(low)) = (digit(*high), digit(*low)) else {
-            return Ok(None);
-        };
-        all.push(high.wrapping_mul(16).wrapping_add(low))?;
+    if text.bytes().any(|digit| digit.is_ascii_uppercase()) {
+        return Err(ReadError::Unreadable);
     }
-    Ok(Some(all))
+    let mut bytes = vec![in heap; 0; text.len() / 2]?;
+    hex::decode_to_slice(text, &mut bytes)?;
+    Ok(bytes)
 }
 
-fn note(words: &[&str]) -> Option<SheetCall> {
-    let [station, variable, value, awaited, count] = words else {
-        return None;
-    };
-    let wait = Wait {
-        station: awaited.parse().ok()?,
-        count: count.parse().ok()?,
-    };
-    let event = Event {
-        variable: variable.parse().ok()?,
-        value: value.parse().ok()?,
-        wait,
-    };
-    Some(SheetCall::Note(station.parse().ok()?, event))
-}
-
-fn event(station: &str, number: &str) -> Option<EventId> {
-    Some(EventId {
-        station: station.parse().ok()?,
-        number: number.parse().ok()?,
+fn event_id(station: &str, number: &str) -> Result<EventId, ParseIntError> {
+    Ok(EventId {
+        station: station.parse()?,
+        number: number.parse()?,
     })
 }
 
-fn numbers(name: &str, words: &[&str]) -> Option<SheetCall> {
-    match words {
-        [n] if name == "sheet" => Some(SheetCall::Choose(n.parse().ok()?)),
-        [n] if name == "open" => Some(SheetCall::Open(n.parse().ok()?)),
-        [s, n] if name == "reach" => Some(SheetCall::Reach(event(s, n)?)),
-        [s, n, t, k] if name == "precedes" => Some(SheetCall::Precedes(event(s, n)?, event(t, k)?)),
-        _ => None,
-    }
-}
-
-fn load(heap: Global, words: &[&str]) -> Result<Option<SheetCall>, AllocError> {
-    let [file] = words else {
-        return Ok(None);
-    };
-    match bytes(heap, file)? {
-        Some(file) => Ok(Some(SheetCall::Load(file))),
-        None => Ok(None),
-    }
-}
-
-fn table(heap: Global, words: &[&str]) -> Result<Option<MonitorCall>, AllocError> {
-    let [states, initial, bad, guards, arcs] = words else {
-        return Ok(None);
-    };
-    let (Some(guards), Some(arcs)) = (bytes(heap, guards)?, bytes(heap, arcs)?) else {
-        return Ok(None);
-    };
-    let (Ok(states), Ok(initial), Ok(bad)) = (states.parse(), initial.parse(), bad.parse()) else {
-        return Ok(None);
-    };
-    Ok(Some(MonitorCall::Table(TableBytes {
-        states,
-        initial,
-        bad,
-        guards,
-        arcs,
-    })))
-}
-
-fn combination(
-    heap: Global,
-    kind: &str,
-    words: &[&str],
-) -> Result<Option<MonitorCall>, AllocError> {
-    let [first, second] = words else {
-        return Ok(None);
-    };
-    let last = String::from_str(heap, second)?;
-    match kind {
-        "either" => Ok(Some(MonitorCall::Either(String::from_str(heap, first)?, last))),
-        "both" => Ok(Some(MonitorCall::Both(String::from_str(heap, first)?, last))),
-        _ => match first.parse() {
-            Ok(mask) => Ok(Some(MonitorCall::Only(mask, last))),
-            Err(_) => Ok(None),
-        },
-    }
-}
-
-fn read_question(kind: &str, words: &[&str]) -> Option<Question> {
-    match words {
-        [] if kind == "states" => Some(Question::States),
-        [s] if kind == "start" => Some(Question::Start(s.parse().ok()?)),
-        [s] if kind == "bad" => Some(Question::Bad(s.parse().ok()?)),
-        [station, variable, value, s, t] if kind == "step" => {
-            let event = Label {
-                station: station.parse().ok()?,
-                variable: variable.parse().ok()?,
-                value: value.parse().ok()?,
+// The call on a sheet that has the name and takes the words.
+fn sheet_call(heap: Global, name: &str, words: &[&str]) -> Result<SheetCall, ReadError> {
+    match (name, words) {
+        ("sheet", [number]) => Ok(SheetCall::Choose(number.parse()?)),
+        ("open", [count]) => Ok(SheetCall::Open(count.parse()?)),
+        ("note", [station, variable, value, awaited, count]) => {
+            let wait = Wait {
+                station: awaited.parse()?,
+                count: count.parse()?,
             };
-            Some(Question::Step(event, s.parse().ok()?, t.parse().ok()?))
+            let event = Event {
+                variable: variable.parse()?,
+                value: value.parse()?,
+                wait,
+            };
+            Ok(SheetCall::Note(station.parse()?, event))
         }
-        _ => None,
+        ("load", [file]) => Ok(SheetCall::Load(bytes(heap, file)?)),
+        ("reach", [station, number]) => Ok(SheetCall::Reach(event_id(station, number)?)),
+        ("precedes", [s, n, t, k]) => Ok(SheetCall::Precedes(event_id(s, n)?, event_id(t, k)?)),
+        _ => Err(ReadError::Unreadable),
     }
 }
 
-// The call on a sheet that the words make, if its name is one of those.
-fn on_sheet(heap: Global, name: &str, words: &[&str]) -> Result<Call, AllocError> {
-    let call = match name {
-        "note" => note(words),
-        "load" => load(heap, words)?,
-        _ => numbers(name, words),
-    };
-    match call {
-        Some(call) => Ok(Call::Sheet(call)),
-        None => Ok(Call::Unreadable),
+fn read_question(kind: &str, words: &[&str]) -> Result<Question, ReadError> {
+    match (kind, words) {
+        ("states", []) => Ok(Question::States),
+        ("start", [state]) => Ok(Question::Start(state.parse()?)),
+        ("bad", [state]) => Ok(Question::Bad(state.parse()?)),
+        ("step", [station, variable, value, from, to]) => {
+            let event = Label {
+                station: station.parse()?,
+                variable: variable.parse()?,
+                value: value.parse()?,
+            };
+            Ok(Question::Step(event, from.parse()?, to.parse()?))
+        }
+        _ => Err(ReadError::Unreadable),
     }
 }
 
-// The call on a monitor, whose name is the first of the words.
-fn on_monitor(heap: Global, kind: &str, words: &[&str]) -> Result<Call, AllocError> {
-    let [name, rest @ ..] = words else {
-        return Ok(Call::Unreadable);
-    };
-    let call = match kind {
-        "table" => table(heap, rest)?,
-        "either" | "both" | "only" => combination(heap, kind, rest)?,
-        _ => match read_question(kind, rest) {
-            Some(question) => Some(MonitorCall::Ask(question)),
-            None => None,
-        },
-    };
-    match call {
-        Some(call) => Ok(Call::Monitor(String::from_str(heap, name)?, call)),
-        None => Ok(Call::Unreadable),
+// How the monitor of that kind is made.
+fn read_recipe(heap: Global, kind: &str, words: &[&str]) -> Result<Recipe, ReadError> {
+    let name = |word: &str| String::from_str(heap, word);
+    match (kind, words) {
+        ("table", [states, initial, bad, guards, arcs]) => Ok(Recipe::Table(TableBytes {
+            states: states.parse()?,
+            initial: initial.parse()?,
+            bad: bad.parse()?,
+            guards: bytes(heap, guards)?,
+            arcs: bytes(heap, arcs)?,
+        })),
+        ("either", [left, right]) => Ok(Recipe::Either(name(left)?, name(right)?)),
+        ("both", [left, right]) => Ok(Recipe::Both(name(left)?, name(right)?)),
+        ("only", [mask, below]) => Ok(Recipe::Only(mask.parse()?, name(below)?)),
+        _ => Err(ReadError::Unreadable),
+    }
+}
+
+// The call of that kind on a monitor.
+fn monitor_call(heap: Global, kind: &str, words: &[&str]) -> Result<MonitorCall, ReadError> {
+    match kind {
+        "table" | "either" | "both" | "only" => {
+            Ok(MonitorCall::Keep(read_recipe(heap, kind, words)?))
+        }
+        _ => Ok(MonitorCall::Ask(read_question(kind, words)?)),
     }
 }
 
 // The call that a line makes.
-pub fn read(heap: Global, line: &str) -> Result<Call, AllocError> {
+pub fn read(heap: Global, line: &str) -> Result<Call, ReadError> {
     let words: Vec<&str> = line.split(' ').collect(heap)?;
     let [name, rest @ ..] = words.as_slice() else {
-        return Ok(Call::Other);
+        return Err(ReadError::Unknown);
     };
     match *name {
-        "sheet" | "open" | "note" | "load" | "reach" | "precedes" => on_sheet(heap, name, rest),
-        "table" | "either" | "both" | "only" | "states" | "start" | "bad" | "step" => on_monitor(
-            heap, name, rest,
-        ),
-        _ => Ok(Call::Other),
+        "sheet" | "open" | "note" | "load" | "reach" | "precedes" => {
+            Ok(Call::Sheet(sheet_call(heap, name, rest)?))
+        }
+        "table" | "either" | "both" | "only" | "states" | "start" | "bad" | "step" => {
+            let [monitor, rest @ ..] = rest else {
+                return Err(ReadError::Unreadable);
+            };
+            let call = monitor_call(heap, name, rest)?;
+            Ok(Call::Monitor(String::from_str(heap, monitor)?, call))
+        }
+        _ => Err(ReadError::Unknown),
     }
 }

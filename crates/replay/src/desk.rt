@@ -1,8 +1,8 @@
 // The two sheets of a script, and what the calls on them answer.
+use crate::answer::Answer;
 use crate::call::SheetCall;
 use history::{Counts, EventId, Refused};
 use sheet::Sheet;
-use std::alloc::{AllocError, Global};
 
 #[derive(Drop)]
 pub struct Desk {
@@ -10,22 +10,6 @@ pub struct Desk {
     sheet: Sheet,
     chosen: u8,
     aside: Sheet,
-}
-
-// What a call told that has nothing to say but that it is done, or why not.
-pub fn done(heap: Global, answer: Result<(), Refused>) -> Result<String, AllocError> {
-    match answer {
-        Ok(()) => String::from_str(heap, "ok"),
-        Err(why) => why.to_string(heap),
-    }
-}
-
-fn decided(heap: Global, answer: Result<bool, Refused>) -> Result<String, AllocError> {
-    match answer {
-        Ok(true) => String::from_str(heap, "yes"),
-        Ok(false) => String::from_str(heap, "no"),
-        Err(why) => why.to_string(heap),
-    }
 }
 
 impl Desk {
@@ -44,26 +28,23 @@ impl Desk {
         }
     }
 
-    fn reach(&self, heap: Global, event: EventId) -> Result<String, AllocError> {
+    fn reach(&self, event: EventId) -> Result<Counts, Refused> {
         let mut clock = [0; 8];
-        match self.sheet.reach(event, &mut clock) {
-            Ok(()) => Counts(clock).to_string(heap),
-            Err(why) => why.to_string(heap),
-        }
+        self.sheet.reach(event, &mut clock)?;
+        Ok(Counts(clock))
     }
 
-    // What the call answers, as text.
-    pub fn answer(&mut self, heap: Global, call: SheetCall) -> Result<String, AllocError> {
+    pub fn answer(&mut self, call: SheetCall) -> Answer {
         match call {
             SheetCall::Choose(number) => {
                 self.choose(number);
-                done(heap, Ok(()))
+                Answer::Done
             }
-            SheetCall::Open(count) => done(heap, self.sheet.open(count)),
-            SheetCall::Note(station, event) => done(heap, self.sheet.note(station, event)),
-            SheetCall::Load(file) => done(heap, self.sheet.load(&file)),
-            SheetCall::Reach(event) => self.reach(heap, event),
-            SheetCall::Precedes(first, second) => decided(heap, self.sheet.precedes(first, second)),
+            SheetCall::Open(count) => self.sheet.open(count).into(),
+            SheetCall::Note(station, event) => self.sheet.note(station, event).into(),
+            SheetCall::Load(file) => self.sheet.load(&file).into(),
+            SheetCall::Reach(event) => self.reach(event).into(),
+            SheetCall::Precedes(first, second) => self.sheet.precedes(first, second).into(),
         }
     }
 }

@@ -1,65 +1,59 @@
 // Combinations of monitors to a fixed depth: a level is one monitor of the level below, or a combination of such.
 ghost use Rattle.std.specs.Prelude.{◌≡◌};
-ghost use Rattle.replay.specs.Levels.{combined, combined_lawful};
+ghost use Rattle.replay.specs.Levels.{level, level_lawful};
 
 use history::Label;
 use monitor::{Both, Either, Monitor, Only};
 
-#[derive(Clone, Copy)]
-pub enum Kind {
-    // The first of the two monitors alone.
-    First,
-    Either,
-    Both,
-    // The first, with a mask.
-    Only(u32),
+// A combination is boxed, so that a level is hardly larger than the one below.
+// Kept: a match for each of the four questions, since one function for all would hand out a part as a `dyn` value, which the gate
+// refuses.
+#[derive(Drop)]
+pub enum Level<M> {
+    One(M),
+    Either(Box<Either<M, M>>),
+    Both(Box<Both<M, M>>),
+    Only(Box<Only<M>>),
 }
 
-#[derive(Clone, Copy)]
-pub struct Level<M> {
-    pub kind: Kind,
-    pub left: M,
-    pub right: M,
-}
+impl<M: Monitor> Monitor for Level<M> {
+    ghost meaning = { level M.Monitor.meaning };
 
-impl<M: Monitor + Copy> Monitor for Level<M> {
-    ghost meaning = { λ l. combined l.kind (M.Monitor.meaning l.left) (M.Monitor.meaning l.right) };
-
-    ghost lawful = { λ l. combined_lawful l.kind (M.Monitor.meaning l.left) (M.Monitor.meaning l.right) (M.Monitor.lawful l.left) (M.Monitor.lawful l.right) };
+    ghost lawful = { level_lawful M.Monitor.meaning M.Monitor.lawful };
 
     fn states(&self) -> u16 {
-        match self.kind {
-            Kind::First => self.left.states(),
-            Kind::Either => Either::new(self.left, self.right).states(),
-            Kind::Both => Both::new(self.left, self.right).states(),
-            Kind::Only(mask) => Only::new(mask, self.left).states(),
+        match self {
+            Level::One(monitor) => monitor.states(),
+            Level::Either(either) => either.states(),
+            Level::Both(both) => both.states(),
+            Level::Only(only) => only.states(),
         }
     }
 
     fn starts(&self, state: u16) -> bool {
-        match self.kind {
-            Kind::First => self.left.starts(state),
-            Kind::Either => Either::new(self.left, self.right).starts(state),
-            Kind::Both => Both::new(self.left, self.right).starts(state),
-            Kind::Only(mask) => Only::new(mask, self.left).starts(state),
+        match self {
+            Level::One(monitor) => monitor.starts(state),
+            Level::Either(either) => either.starts(state),
+            Level::Both(both) => both.starts(state),
+            Level::Only(only) => only.starts(state),
         }
     }
 
     fn is_bad(&self, state: u16) -> bool {
-        match self.kind {
-            Kind::First => self.left.is_bad(state),
-            Kind::Either => Either::new(self.left, self.right).is_bad(state),
-            Kind::Both => Both::new(self.left, self.right).is_bad(state),
-            Kind::Only(mask) => Only::new(mask, self.left).is_bad(state),
+        match self {
+            Level::One(monitor) => monitor.is_bad(state),
+            Level::Either(either) => either.is_bad(state),
+            Level::Both(both) => both.is_bad(state),
+            Level::Only(only) => only.is_bad(state),
         }
     }
 
     fn steps(&self, from: u16, event: Label, to: u16) -> bool {
-        match self.kind {
-            Kind::First => self.left.steps(from, event, to),
-            Kind::Either => Either::new(self.left, self.right).steps(from, event, to),
-            Kind::Both => Both::new(self.left, self.right).steps(from, event, to),
-            Kind::Only(mask) => Only::new(mask, self.left).steps(from, event, to),
+        match self {
+            Level::One(monitor) => monitor.steps(from, event, to),
+            Level::Either(either) => either.steps(from, event, to),
+            Level::Both(both) => both.steps(from, event, to),
+            Level::Only(only) => only.steps(from, event, to),
         }
     }
 }

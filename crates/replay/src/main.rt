@@ -1,6 +1,7 @@
 // Runs scripts of library calls from standard input and prints how many agreed with their expected answers.
 #![tactic(auto)]
 
+mod answer;
 mod call;
 mod desk;
 mod level;
@@ -17,7 +18,7 @@ fn run(rt: &HostRuntime) -> anyhow::Result<()> {
     for line in BufReader::new(heap, rt.stdin())?.lines(heap) {
         tally.line(line?.as_str())?;
     }
-    rt.println(tally.summary()?)?;
+    rt.println(tally)?;
     Ok(())
 }
 

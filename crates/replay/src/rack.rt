@@ -1,117 +1,80 @@
 // The monitors of a script by their names, and what the calls on them answer.
+use crate::answer::Answer;
 use crate::call::{MonitorCall, Question};
-use crate::desk::done;
 use crate::level::Level;
-use crate::recipe::{Make, Recipe, TableBytes};
+use crate::recipe::{Make, Recipe, Recipes};
+use history::Refused;
 use monitor::{Monitor, Table};
 use std::alloc::{AllocError, Global};
+use std::collections::BTreeMap;
 
 #[derive(Drop)]
 pub struct Rack {
-    names: Vec<String>,
-    recipes: Vec<Recipe>,
+    heap: Global,
+    recipes: Recipes,
 }
 
 // Combinations four deep.
 type Deep<'a> = Level<Level<Level<Level<Table<'a>>>>>;
 
-fn said(heap: Global, yes: bool) -> Result<String, AllocError> {
-    String::from_str(heap, if yes { "yes" } else { "no" })
-}
-
-fn asked<M: Monitor>(heap: Global, monitor: &M, question: Question) -> Result<String, AllocError> {
+fn asked<M: Monitor>(monitor: &M, question: Question) -> Answer {
     match question {
-        Question::States => monitor.states().to_string(heap),
-        Question::Start(s) => said(heap, monitor.starts(s)),
-        Question::Bad(s) => said(heap, monitor.is_bad(s)),
-        Question::Step(event, s, t) => said(heap, monitor.steps(s, event, t)),
+        Question::States => monitor.states().into(),
+        Question::Start(state) => monitor.starts(state).into(),
+        Question::Bad(state) => monitor.is_bad(state).into(),
+        Question::Step(event, from, to) => monitor.steps(from, event, to).into(),
     }
 }
 
 impl Rack {
     pub fn new(heap: Global) -> Rack {
         Rack {
-            names: Vec::new(heap),
-            recipes: Vec::new(heap),
+            heap,
+            recipes: BTreeMap::new(heap),
         }
     }
 
-    // The place of a name.
-    fn find(&self, name: &str) -> Option<usize> {
-        for (i, known) in self.names.iter().enumerate() {
-            if known.as_str() == name {
-                return Some(i);
+    fn knows(&self, name: &str) -> bool {
+        self.recipes.contains_key(name)
+    }
+
+    // Whether a monitor can be made so; none where it is made of one that is not known here.
+    fn tried(&self, recipe: &Recipe) -> Option<Result<(), Refused>> {
+        match recipe {
+            Recipe::Table(bytes) => Some(bytes.table().map(|_table| ())),
+            Recipe::Either(left, right) | Recipe::Both(left, right) => {
+                (self.knows(left.as_str()) && self.knows(right.as_str())).then_some(Ok(()))
             }
+            Recipe::Only(_, below) => self.knows(below.as_str()).then_some(Ok(())),
         }
-        None
     }
 
     // Puts a monitor under a name, which may be new.
-    fn keep(&mut self, heap: Global, name: String, recipe: Recipe) -> Result<String, AllocError> {
-        match self.find(name.as_str()) {
-            Some(i) if i < self.recipes.len() => self.recipes[i] = recipe,
-            _ => {
-                self.names.push(name)?;
-                self.recipes.push(recipe)?;
-            }
+    fn keep(&mut self, name: String, recipe: Recipe) -> Result<Option<Answer>, AllocError> {
+        let answer = self.tried(&recipe);
+        if let Some(Ok(())) = answer {
+            self.recipes.insert(name, recipe)?;
         }
-        done(heap, Ok(()))
+        Ok(answer.map(Answer::from))
     }
 
-    fn table(
-        &mut self,
-        heap: Global,
-        name: String,
-        bytes: TableBytes,
-    ) -> Result<String, AllocError> {
-        let answer = bytes.fill(&mut Table::new());
-        if answer.is_err() {
-            return done(heap, answer);
-        }
-        self.keep(heap, name, Recipe::Table(bytes))
-    }
-
-    // How a combination of monitors that have names is made.
-    fn combination(&self, call: MonitorCall) -> Option<Recipe> {
-        match call {
-            MonitorCall::Either(left, right) => {
-                Some(Recipe::Either(self.find(left.as_str())?, self.find(right.as_str())?))
-            }
-            MonitorCall::Both(left, right) => {
-                Some(Recipe::Both(self.find(left.as_str())?, self.find(right.as_str())?))
-            }
-            MonitorCall::Only(mask, below) => Some(Recipe::Only(mask, self.find(below.as_str())?)),
-            _ => None,
-        }
-    }
-
-    fn ask(
-        &self,
-        heap: Global,
-        name: &str,
-        question: Question,
-    ) -> Result<Option<String>, AllocError> {
-        let Some(at) = self.find(name) else {
+    fn ask(&self, name: &str, question: Question) -> Result<Option<Answer>, AllocError> {
+        if !self.knows(name) {
             return Ok(None);
-        };
-        let monitor: Deep = Make::make(&self.recipes, at);
-        Ok(Some(asked(heap, &monitor, question)?))
+        }
+        let monitor = Deep::make(self.heap, &self.recipes, name)?;
+        Ok(Some(asked(&monitor, question)))
     }
 
-    // What the call answers, as text; none where it is on a monitor that is not known here.
+    // None where the call is on a monitor that is not known here.
     pub fn answer(
         &mut self,
-        heap: Global,
         name: String,
         call: MonitorCall,
-    ) -> Result<Option<String>, AllocError> {
+    ) -> Result<Option<Answer>, AllocError> {
         match call {
-            MonitorCall::Ask(question) => self.ask(heap, name.as_str(), question),
-            MonitorCall::Table(bytes) => Ok(Some(self.table(heap, name, bytes)?)),
-            call => match self.combination(call) {
-                Some(recipe) => Ok(Some(self.keep(heap, name, recipe)?)),
-                None => Ok(None),
-            },
+            MonitorCall::Keep(recipe) => self.keep(name, recipe),
+            MonitorCall::Ask(question) => self.ask(name.as_str(), question),
         }
     }
 }

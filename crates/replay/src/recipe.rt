@@ -1,7 +1,11 @@
 // The monitors of a script: how each is made, and the monitor itself, made anew for each question.
-use crate::level::{Kind, Level};
+ghost use Rattle.replay.specs.Recipes.{TableOf};
+
+use crate::level::Level;
 use history::Refused;
-use monitor::Table;
+use monitor::{Both, Either, Monitor, Only, Table};
+use std::alloc::{AllocError, Global};
+use std::collections::BTreeMap;
 
 #[derive(Drop)]
 pub struct TableBytes {
@@ -12,55 +16,67 @@ pub struct TableBytes {
     pub arcs: Vec<u8>,
 }
 
-// A monitor is a table, or a combination of earlier ones by their places in the script's list.
+// A monitor is a table, or a combination of monitors by their names.
 #[derive(Drop)]
 pub enum Recipe {
     Table(TableBytes),
-    Either(usize, usize),
-    Both(usize, usize),
-    Only(u32, usize),
+    Either(String, String),
+    Both(String, String),
+    Only(u32, String),
 }
 
+// How the monitors of a script are made, by their names.
+pub type Recipes = BTreeMap<String, Recipe>;
+
 impl TableBytes {
-    pub fn fill<'a>(&'a self, table: &mut Table<'a>) -> Result<(), Refused> {
+    pub fn table(&self) -> Result<Table<'_>, Refused>
+        ensures { TableOf self.now result }
+    {
+        let mut table = Table::new();
         table.fill(
             self.states,
             self.initial,
             self.bad,
             &self.guards,
             &self.arcs,
-        )
+        )?;
+        Ok(table)
     }
 }
 
-// A monitor that can be made of a recipe.
-pub trait Make<'a> {
-    fn make(recipes: &'a [Recipe], at: usize) -> Self;
+// A monitor that can be made of the recipe of a name.
+pub trait Make<'a>: Monitor + Drop {
+    fn make(heap: Global, recipes: &'a Recipes, name: &str) -> Result<Self, AllocError>;
 }
 
 // A table; a new one where the recipe is none.
 impl<'a> Make<'a> for Table<'a> {
-    fn make(recipes: &'a [Recipe], at: usize) -> Table<'a> {
-        let mut table = Table::new();
-        if let Some(Recipe::Table(bytes)) = recipes.get(at) {
-            let _ = bytes.fill(&mut table);
+    fn make(_heap: Global, recipes: &'a Recipes, name: &str) -> Result<Table<'a>, AllocError> {
+        match recipes.get(name) {
+            Some(Recipe::Table(bytes)) => Ok(bytes.table().unwrap_or(Table::new())),
+            _ => Ok(Table::new()),
         }
-        table
     }
 }
 
 impl<'a, M: Make<'a>> Make<'a> for Level<M> {
-    fn make(recipes: &'a [Recipe], at: usize) -> Level<M> {
-        let (kind, left, right) = match recipes.get(at) {
-            Some(Recipe::Either(left, right)) => (Kind::Either, *left, *right),
-            Some(Recipe::Both(left, right)) => (Kind::Both, *left, *right),
-            Some(Recipe::Only(mask, below)) => (Kind::Only(*mask), *below, *below),
-            _ => (Kind::First, at, at),
-        };
-        Level {
-            kind,
-            left: M::make(recipes, left),
-            right: M::make(recipes, right),
+    fn make(heap: Global, recipes: &'a Recipes, name: &str) -> Result<Level<M>, AllocError> {
+        match recipes.get(name) {
+            Some(Recipe::Either(left, right)) => {
+                let left = M::make(heap, recipes, left.as_str())?;
+                let right = M::make(heap, recipes, right.as_str())?;
+                Ok(Level::Either(Box::new(heap, Either::new(left, right))?))
+            }
+            Some(Recipe::Both(left, right)) => {
+                let left = M::make(heap, recipes, left.as_str())?;
+                let right = M::make(heap, recipes, right.as_str())?;
+                Ok(Level::Both(Box::new(heap, Both::new(left, right))?))
+            }
+            Some(Recipe::Only(mask, below)) => {
+                let below = M::make(heap, recipes, below.as_str())?;
+                Ok(Level::Only(Box::new(heap, Only::new(*mask, below))?))
+            }
+            _ => Ok(Level::One(M::make(heap, recipes, name)?)),
         }
     }
 }

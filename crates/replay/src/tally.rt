@@ -1,9 +1,11 @@
 // How many calls of the scripts agreed with what was expected.
+use crate::answer::Answer;
 use crate::call;
-use crate::call::Call;
+use crate::call::{Call, ReadError};
 use crate::desk::Desk;
 use crate::rack::Rack;
 use std::alloc::{AllocError, Global};
+use std::fmt;
 
 #[derive(Drop)]
 pub struct Tally {
@@ -14,18 +16,8 @@ pub struct Tally {
     agreed: u64,
     differed: u64,
     passed_over: u64,
-    // The first call that differed; empty where none did.
-    first: String,
-}
-
-fn difference(
-    heap: Global,
-    script: &str,
-    call: &str,
-    found: &str,
-    expected: &str,
-) -> Result<String, AllocError> {
-    format!(in heap; "{script}: {call} = {found}, expected {expected}")
+    // The first call that differed.
+    first: Option<String>,
 }
 
 impl Tally {
@@ -38,29 +30,34 @@ impl Tally {
             agreed: 0,
             differed: 0,
             passed_over: 0,
-            first: String::new(heap),
+            first: None,
         }
     }
 
-    fn compare(&mut self, call: &str, expected: &str, found: &str) -> Result<(), AllocError> {
-        if found == expected {
+    fn compare(&mut self, call: &str, expected: &str, found: Answer) -> Result<(), AllocError> {
+        let found = found.to_string(self.heap)?;
+        if found.as_str() == expected {
             self.agreed = self.agreed.saturating_add(1);
             return Ok(());
         }
         self.differed = self.differed.saturating_add(1);
-        if self.first.is_empty() {
-            self.first = difference(self.heap, self.script.as_str(), call, found, expected)?;
+        if self.first.is_none() {
+            let script = self.script.as_str();
+            self.first = Some(format!(in self.heap;
+                "{script}: {call} = {found}, expected {expected}"
+            )?);
         }
         Ok(())
     }
 
     // What a call answers; none where it is not known here.
-    fn answer(&mut self, call: &str) -> Result<Option<String>, AllocError> {
-        match call::read(self.heap, call)? {
-            Call::Sheet(call) => Ok(Some(self.desk.answer(self.heap, call)?)),
-            Call::Monitor(name, call) => self.rack.answer(self.heap, name, call),
-            Call::Unreadable => Ok(Some(String::from_str(self.heap, "unreadable")?)),
-            Call::Other => Ok(None),
+    fn answer(&mut self, call: &str) -> Result<Option<Answer>, AllocError> {
+        match call::read(self.heap, call) {
+            Ok(Call::Sheet(call)) => Ok(Some(self.desk.answer(call))),
+            Ok(Call::Monitor(name, call)) => self.rack.answer(name, call),
+            Err(ReadError::Unreadable) => Ok(Some(Answer::Unreadable)),
+            Err(ReadError::Unknown) => Ok(None),
+            Err(ReadError::Memory(error)) => Err(error),
         }
     }
 
@@ -75,27 +72,25 @@ impl Tally {
         let Some((call, expected)) = line.split_once(" = ") else {
             return Ok(());
         };
-        match self.answer(call)? {
-            Some(found) => self.compare(call, expected, found.as_str()),
-            None => {
-                self.passed_over = self.passed_over.saturating_add(1);
-                Ok(())
-            }
-        }
+        let Some(found) = self.answer(call)? else {
+            self.passed_over = self.passed_over.saturating_add(1);
+            return Ok(());
+        };
+        self.compare(call, expected, found)
     }
+}
 
-    // What is printed at the end.
-    pub fn summary(&self) -> Result<String, AllocError> {
+// What is printed at the end.
+impl fmt::Display for Tally {
+    fn fmt<W: fmt::Write>(&self, f: &mut fmt::Formatter<W>) -> fmt::Result {
         let agreed = self.agreed;
         let differed = self.differed;
         let passed_over = self.passed_over;
-        let first = if self.first.is_empty() {
-            "none"
-        } else {
-            self.first.as_str()
-        };
-        format!(in self.heap;
-            "agreed {agreed}, differed {differed}, passed over {passed_over}; first difference: {first}"
-        )
+        let first = self.first.as_deref().unwrap_or("none");
+        write!(
+            f,
+            "agreed {agreed}, differed {differed}, passed over {passed_over}; "
+        )?;
+        write!(f, "first difference: {first}")
     }
 }

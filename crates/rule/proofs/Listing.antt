@@ -1,8 +1,8 @@
 -- Guards are listed one by one: all are there and lawful, or the first that is not stands for all.
 use Rattle.std.proofs.Common.{◌≡◌, ℕ, ◌+◌, ◌*◌, ◌<◌, Bool, true, false, ◌&&◌, leb, List, length, Some, None, sym, ap, ◌∙◌, ap₂, ⊎_elim, arith}
+use Rattle.std.proofs.lemmas.Option.{same_Some}
 use mathlib.Core.Bool.{and-false}
 use Rattle.std.proofs.lemmas.Bool.{and_parts, leb-true, leb-false, le-leb, lt-leb, cases_Bool, cond-true, cond-false}
-use Rattle.history.proofs.Nth.{same_some}
 use Rattle.monitor.proofs.Below.{all_more, all_fails}
 use Rattle.monitor.specs.Guards.{guard_at}
 use Rattle.monitor.specs.Tables.{all_below, guard_lawful, listed_guard}
@@ -21,7 +21,7 @@ module _ (bytes : List ℕ) (k : ℕ) where
       let far = leb-true (10 * k + 10) (length bytes) there.0 in (
         ap₂ ◌&&◌ (le-leb (10 * (k + 1)) (length bytes) (omega (arith, far)))
             (all_more k (guard_lawful bytes) (and_parts (leb (10 * k) (length bytes)) _ l).1 there.1),
-        same_some (guard_at bytes k) g (sym (cond-true whole (Some (guard_at bytes k)) None w) ∙ q),
+        same_Some (guard_at bytes k) g (sym (cond-true whole (Some (guard_at bytes k)) None w) ∙ q),
       ))
       (λ w. let z = sym (cond-false whole (Some (guard_at bytes k)) None w) ∙ q in
       let n : ◌≡◌ {A = ℕ} 0 1 = cc in absurd (omega arith))

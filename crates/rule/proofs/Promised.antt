@@ -9,6 +9,7 @@ use Rattle.formula.specs.Formulas.{Future, Past}
 use Rattle.formula.specs.Lines.{future_line, past_line}
 use Rattle.formula.proofs.FutureDriven.{future_driven}
 use Rattle.formula.proofs.PastDriven.{past_driven}
+use Rattle.rule.specs.Kinds.{back}
 use Rattle.rule.specs.Driven.{LineHolds, RuleDriven}
 use Rattle.rule.specs.Held.{held}
 use Rattle.rule.specs.RuleFiles.{Formula, ahead, behind, ahead_of, behind_of, formula_of}
@@ -38,4 +39,4 @@ module _ (guards : List Guard) (bytes : List ℕ) (o : Progress) where
       look (Err why) q p = absurd (false≢true p)
 
 pub line_promised : (l : RuleLine) → RuleDriven (held l)
-line_promised l = promised (take l.letters l.guards) (take l.size l.items) l.outline l.past l.lawful
+line_promised l = promised (take l.letters l.guards) (take l.size l.items) l.outline (back l.kind) l.lawful

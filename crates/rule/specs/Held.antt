@@ -2,6 +2,7 @@
 use Rattle.std.specs.Prelude.{ℕ, ◌+◌, ◌-◌, ◌^◌, Bool, false, cond, ◌&&◌, [], ◌∷◌, take, ◌==◌, nat_le}
 use Rattle.history.specs.declared.Label.{Label}
 use Rattle.monitor.specs.Guards.{guard_at}
+use Rattle.rule.specs.Kinds.{back}
 use Rattle.rule.specs.RuleFiles.{Rule}
 use Rattle.rule.specs.Passes.{passed, begun}
 use Rattle.rule.specs.declared.line.RuleLine.{RuleLine}
@@ -9,7 +10,7 @@ use Rattle.rule.specs.declared.pass.Pass.{Pass}
 use Rattle.rule.specs.declared.progress.Progress.{Progress}
 
 abbrev pub held : RuleLine → Rule
-held l = record { looks_back = l.past; guards = take l.letters l.guards; items = take l.size l.items }
+held l = record { looks_back = back l.kind; guards = take l.letters l.guards; items = take l.size l.items }
 
 -- what a new line holds: the future line a!a|, which holds on every sequence, with the guard of ten zero bytes
 abbrev pub always_held : Rule

@@ -1,3 +1,4 @@
+pub mod Kinds
 pub mod RuleFiles
 pub mod Passes
 pub mod Outlines

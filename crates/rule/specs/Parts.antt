@@ -5,6 +5,8 @@ use Rattle.history.specs.declared.Refusal.{Refusal}
 use Rattle.history.specs.declared.Refusal.TheVariants.{GuardList, LineShape}
 use Rattle.monitor.specs.Tables.{all_below, guard_lawful}
 use Rattle.monitor.specs.declared.guard.Guard.{Guard}
+use Rattle.rule.specs.Kinds.{back}
+use Rattle.rule.specs.declared.kind.Kind.{Kind}
 use Rattle.rule.specs.RuleFiles.{guards_of, marked, guard_bytes, line_shaped, file_answer}
 
 -- n guards are there and lawful
@@ -34,6 +36,6 @@ pub record Shaped (line : List ℕ) (looks_back : Bool) (items : List ℕ) : Typ
   pub few : length items ≤ 32
   pub items_are : items ≡ drop 1 line
 
-abbrev pub Shape : List ℕ → Result (Bool × Bor (List ℕ)) Refusal → Type 0
-Shape line (Ok (looks_back, items)) = Shaped line looks_back items.now
+abbrev pub Shape : List ℕ → Result (Kind × Bor (List ℕ)) Refusal → Type 0
+Shape line (Ok (kind, items)) = Shaped line (back kind) items.now
 Shape line (Err why) = (line_shaped line ≡ false) × (why ≡ LineShape)

@@ -2,11 +2,13 @@
 ghost use Rattle.std.specs.Prelude.{◌≡◌, ◌≤◌, take};
 ghost use Rattle.rule.specs.Driven.{RuleDriven};
 ghost use Rattle.rule.specs.Held.{held, pass_over, steps_ahead as steps_ahead_of, steps_back as steps_back_of};
+ghost use Rattle.rule.specs.Kinds.{back};
 ghost use Rattle.rule.specs.RuleFiles.{formula_of};
 ghost use Rattle.rule.specs.RuleLines.{automaton, rule_lawful};
 
+use crate::kind::Kind;
 use crate::line::RuleLine;
-use crate::pass::{Pass, passed};
+use crate::pass::{Letters, Pass, passed};
 use history::Label;
 use monitor::Monitor;
 
@@ -15,12 +17,11 @@ impl RuleLine {
     fn pass(&self, event: Label, ahead: u64) -> Pass
         ensures { result ≡ pass_over (held self.now) event ahead }
     {
-        passed(
-            &self.guards[..self.letters as usize],
-            &self.items[..self.size as usize],
+        let letters = Letters {
+            guards: &self.guards[..usize::from(self.letters)],
             event,
-            ahead,
-        )
+        };
+        passed(&letters, &self.items[..usize::from(self.size)], ahead)
     }
 
     // A step between states of a future line: into a state that is not the start, from the start when the line fails here,
@@ -61,11 +62,10 @@ impl RuleLine {
 impl Monitor for RuleLine {
     ghost meaning = { λ l. automaton (formula_of (held l)) };
 
-    ghost lawful = { λ l. rule_lawful l.past (take l.letters l.guards) (take l.size l.items) };
+    ghost lawful = { λ l. rule_lawful (back l.kind) (take l.letters l.guards) (take l.size l.items) };
 
     fn states(&self) -> u16 {
-        let spare = if self.past { 2 } else { 1 };
-        (1 << self.outline.temporal) + spare
+        (1 << self.outline.temporal) + self.kind.spare_states()
     }
 
     fn starts(&self, state: u16) -> bool {
@@ -73,10 +73,9 @@ impl Monitor for RuleLine {
     }
 
     fn is_bad(&self, state: u16) -> bool {
-        if self.past {
-            state == 1
-        } else {
-            state >= 1 && (state - 1) as u64 == self.outline.end
+        match self.kind {
+            Kind::Future => state >= 1 && (state - 1) as u64 == self.outline.end,
+            Kind::Past => state == 1,
         }
     }
 
@@ -85,10 +84,9 @@ impl Monitor for RuleLine {
         if from >= states || to >= states {
             return false;
         }
-        if self.past {
-            self.steps_back(from, event, to)
-        } else {
-            self.steps_ahead(from, event, to)
+        match self.kind {
+            Kind::Future => self.steps_ahead(from, event, to),
+            Kind::Past => self.steps_back(from, event, to),
         }
     }
 }

@@ -6,6 +6,7 @@ ghost use Rattle.rule.specs.Held.{held, always_held};
 ghost use Rattle.rule.specs.Reads.{LineRead};
 ghost use Rattle.rule.specs.RuleFiles.{read_answer, rule_of, told};
 
+use crate::kind::Kind;
 use crate::line::RuleLine;
 use crate::progress::{Progress, outlined};
 use history::{Refusal, Refused};
@@ -18,15 +19,8 @@ const GUARDS: usize = 26;
 
 const ITEMS: usize = 32;
 
-// What stands where no guard is named.
-const NO_GUARD: Guard = Guard {
-    variable: 0,
-    low: 0,
-    high: 0,
-    outside: false,
-};
-
 // The file's guard count and the bytes behind it.
+// Kept: a run file begins alike, but one function for both would take the mark and two refusals, for a pattern and a test.
 fn header(file: &[u8]) -> Result<(u8, &[u8]), Refusal>
     ensures { Header file.now result }
 {
@@ -39,16 +33,16 @@ fn header(file: &[u8]) -> Result<(u8, &[u8]), Refusal>
     Ok((*count, rest))
 }
 
-// Whether a line is a past one, and its items.
-fn shaped(line: &[u8]) -> Result<(bool, &[u8]), Refusal>
+// The kind of a line and its items.
+fn shaped(line: &[u8]) -> Result<(Kind, &[u8]), Refusal>
     ensures { Shape line.now result }
 {
     if line.len() < 2 || line.len() > 1 + ITEMS {
         return Err(Refusal::LineShape);
     }
     match line {
-        [b'<', items @ ..] => Ok((true, items)),
-        [b'>', items @ ..] => Ok((false, items)),
+        [b'<', items @ ..] => Ok((Kind::Past, items)),
+        [b'>', items @ ..] => Ok((Kind::Future, items)),
         _ => Err(Refusal::LineShape),
     }
 }
@@ -58,12 +52,10 @@ fn listed(bytes: &[u8], count: u8) -> Result<[Guard; GUARDS], Refusal>
     requires { count ≤ 26 }
     ensures { Listed bytes.now count result }
 {
-    let mut guards = [NO_GUARD; GUARDS];
+    let mut guards = [Guard::default(); GUARDS];
+    // Kept: k is the number that a guard is asked by. Of `array::try_from_fn` the proof did not close.
     for k in 0..count {
-        match listed_guard(bytes, k) {
-            Some(guard) => guards[k as usize] = guard,
-            None => return Err(Refusal::GuardList),
-        }
+        guards[k as usize] = listed_guard(bytes, k).ok_or(Refusal::GuardList)?;
     }
     Ok(guards)
 }
@@ -84,16 +76,13 @@ fn line_of(file: &[u8]) -> Result<RuleLine, Refused>
 {
     let (letters, rest) = header(file)?;
     if letters as usize > GUARDS {
-        return Err(Refused {
-            refusal: Refusal::GuardList,
-            place: 0,
-        });
+        return Err(Refusal::GuardList.at(0));
     }
     let guards = listed(rest, letters)?;
-    let (past, items) = shaped(&rest[10 * letters as usize..])?;
-    let outline = outlined(past, letters, items)?;
+    let (kind, items) = shaped(&rest[10 * letters as usize..])?;
+    let outline = outlined(kind, letters, items)?;
     Ok(RuleLine {
-        past,
+        kind,
         guards,
         letters,
         items: kept(items),
@@ -107,16 +96,11 @@ impl RuleLine {
     pub fn new() -> RuleLine
         ensures { held result ≡ always_held }
     {
-        let mut items = [0; ITEMS];
-        items[0] = b'a';
-        items[1] = b'!';
-        items[2] = b'a';
-        items[3] = b'|';
         RuleLine {
-            past: false,
-            guards: [NO_GUARD; GUARDS],
+            kind: Kind::Future,
+            guards: [Guard::default(); GUARDS],
             letters: 1,
-            items,
+            items: kept(b"a!a|"),
             size: 4,
             outline: Progress {
                 depth: 1,

@@ -3,6 +3,7 @@
 
 mod automaton;
 mod file;
+mod kind;
 mod line;
 mod pass;
 mod progress;

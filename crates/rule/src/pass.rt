@@ -1,7 +1,7 @@
 // One pass over the items of a line at one event, the judge's innermost work.
 ghost use Rattle.std.specs.Prelude.{◌≡◌, ◌-◌, ◌^◌, ◌<◌, ◌≤◌, length};
 ghost use Rattle.history.specs.Histories.{nth};
-ghost use Rattle.rule.specs.Passes.{triggered as triggered_by, last as last_of, earlier as earlier_of, looked as looked_of, push as push_of, one as one_of, two as two_of, keep as keep_of, valued as valued_of, passed as passed_of, begun};
+ghost use Rattle.rule.specs.Passes.{triggered as triggered_by, low as low_of, put as put_of, keep as keep_of, valued as valued_of, passed as passed_of, begun};
 
 use history::Label;
 use monitor::Guard;
@@ -17,67 +17,49 @@ pub(crate) struct Pass {
     pub(crate) weight: u64,
 }
 
-// Whether the event triggers the guard that a letter names.
-fn triggered(guards: &[Guard], letter: u8, event: Label) -> bool
-    ensures { result ≡ triggered_by event (nth guards.now (letter - 96)) }
-{
-    if letter < b'a' {
-        return false;
-    }
-    match guards.get((letter - b'a') as usize) {
-        Some(guard) => guard.triggers(event),
-        None => false,
+// The guards that a line's letters name, at an event.
+#[derive(Clone, Copy)]
+pub(crate) struct Letters<'a> {
+    pub(crate) guards: &'a [Guard],
+    pub(crate) event: Label,
+}
+
+impl Letters<'_> {
+    // Whether the event triggers the guard that the letter names.
+    fn hold(&self, letter: u8) -> bool
+        ensures { result ≡ triggered_by self.now.event (nth self.now.guards.now (letter - 96)) }
+    {
+        let Some(k) = letter.checked_sub(b'a') else {
+            return false;
+        };
+        match self.guards.get(usize::from(k)) {
+            Some(guard) => guard.triggers(self.event),
+            None => false,
+        }
     }
 }
 
+// The lowest bit.
+fn low(bits: u64) -> bool
+    ensures { result ≡ low_of bits }
+{
+    bits % 2 == 1
+}
+
 impl Pass {
-    fn last(self) -> bool
-        ensures { result ≡ last_of self }
-    {
-        self.stack % 2 == 1
-    }
-
-    fn earlier(self) -> bool
-        ensures { result ≡ earlier_of self }
-    {
-        self.stack / 2 % 2 == 1
-    }
-
-    fn looked(self) -> bool
-        ensures { result ≡ looked_of self }
-    {
-        self.ahead % 2 == 1
-    }
-
-    fn push(self, value: bool) -> Pass
-        requires { self.stack < 2 ^ 63 }
-        ensures { result ≡ push_of self value }
+    // The value upon the rest of the stack.
+    fn put(self, rest: u64, value: bool) -> Self
+        requires { rest < 2 ^ 63 }
+        ensures { result ≡ put_of rest self value }
     {
         Pass {
-            stack: value as u64 + 2 * self.stack,
+            stack: u64::from(value) + 2 * rest,
             ..self
         }
     }
 
-    fn one(self, value: bool) -> Pass
-        ensures { result ≡ one_of self value }
-    {
-        Pass {
-            stack: value as u64 + 2 * (self.stack / 2),
-            ..self
-        }
-    }
-
-    fn two(self, value: bool) -> Pass
-        ensures { result ≡ two_of self value }
-    {
-        Pass {
-            stack: value as u64 + 2 * (self.stack / 2 / 2),
-            ..self
-        }
-    }
-
-    fn keep(self, bit: bool) -> Pass
+    // The bit here of a temporal item.
+    fn keep(self, bit: bool) -> Self
         requires weight_bound { self.weight < 2 ^ 62 }
         requires here_le_weight { self.here ≤ self.weight }
         ensures { result ≡ keep_of self bit }
@@ -95,39 +77,42 @@ impl Pass {
     }
 
     // The pass behind one more item.
-    fn valued(self, guards: &[Guard], event: Label, item: u8) -> Pass
+    fn valued(self, letters: &Letters<'_>, item: u8) -> Self
         requires stack_bound { self.stack < 2 ^ 63 }
         requires weight_bound { self.weight < 2 ^ 62 }
         requires here_le_weight { self.here ≤ self.weight }
-        ensures { result ≡ valued_of guards.now event item self }
+        ensures { result ≡ valued_of letters.now.guards.now letters.now.event item self }
     {
-        let last = self.last();
-        let earlier = self.earlier();
-        let looked = self.looked();
+        // The stack without its last value, and without its last two.
+        let one = self.stack / 2;
+        let two = one / 2;
+        let last = low(self.stack);
+        let earlier = low(one);
+        let looked = low(self.ahead);
         match item as char {
-            '!' => self.one(!last),
-            '&' => self.two(earlier && last),
-            '|' => self.two(earlier || last),
-            'X' | 'W' | 'Y' => self.one(looked).keep(last),
-            'G' | 'H' => self.one(last && looked).keep(last && looked),
-            'F' | 'O' => self.one(last || looked).keep(last || looked),
+            '!' => self.put(one, !last),
+            '&' => self.put(two, earlier && last),
+            '|' => self.put(two, earlier || last),
+            'X' | 'W' | 'Y' => self.put(one, looked).keep(last),
+            'G' | 'H' => self.put(one, last && looked).keep(last && looked),
+            'F' | 'O' => self.put(one, last || looked).keep(last || looked),
             'U' | 'S' => {
                 let value = last || earlier && looked;
-                self.two(value).keep(value)
+                self.put(two, value).keep(value)
             }
             'V' => {
                 let value = last && (earlier || looked);
-                self.two(value).keep(value)
+                self.put(two, value).keep(value)
             }
-            _ => self.push(triggered(guards, item, event)),
+            _ => self.put(self.stack, letters.hold(item)),
         }
     }
 }
 
 // The pass over all items, with these bits at the position looked at.
-pub(crate) fn passed(guards: &[Guard], items: &[u8], event: Label, ahead: u64) -> Pass
+pub(crate) fn passed(letters: &Letters<'_>, items: &[u8], ahead: u64) -> Pass
     requires { length items.now ≤ 32 }
-    ensures { result ≡ passed_of guards.now event (begun ahead) items.now }
+    ensures { result ≡ passed_of letters.now.guards.now letters.now.event (begun ahead) items.now }
 {
     let mut pass = Pass {
         stack: 0,
@@ -136,7 +121,7 @@ pub(crate) fn passed(guards: &[Guard], items: &[u8], event: Label, ahead: u64) -
         weight: 1,
     };
     for item in items {
-        pass = pass.valued(guards, event, *item);
+        pass = pass.valued(letters, *item);
     }
     pass
 }

@@ -18,9 +18,6 @@ module _ (sheet : Sheet) (s : ℕ) (e : Event) (ok : note_answer (history sheet)
   pub there : s < length (rows sheet.table)
   there = omega (arith, shown.on, held_length sheet.table)
 
-  pub station_below : s < 8
-  station_below = omega (arith, there, sheet.few)
-
   pub room : length (row sheet.table s) < 64
   room = omega (arith, shown.room, held_count sheet.table s)
 

@@ -1,5 +1,6 @@
 -- The history that a table's rows hold, and the clocks kept with its events.
 use Rattle.std.proofs.Common.{◌≡◌, ℕ, zero, suc, ◌<◌, ◌≤◌, List, [], ◌∷◌, ◌++◌, map, length, get_or, set, replicate, Some, None, Option, sym, refl, ap, ◌∙◌, subst, ⊎_elim, arith}
+use Rattle.std.proofs.lemmas.Option.{same_Some}
 use Rattle.std.proofs.lemmas.List.{length-map, length_push, length-replicate, get_or_past, get_or-replicate, get_or-set_same, get_or-set_other, map-set, map_push}
 use Rattle.std.proofs.lemmas.Bool.{cases_lt, cases_eq}
 use Rattle.std.proofs.lemmas.List.Sums.{sum_by-cons}
@@ -7,7 +8,7 @@ use Rattle.std.specs.List.{sum_by}
 use Rattle.std.specs.Option.{option_map}
 use Rattle.history.proofs.Clocks.{kept, clock_prop, unique}
 use Rattle.history.proofs.Noted.{Accepted, count_same, event_new}
-use Rattle.history.proofs.Nth.{same_some, nth_push, nth_last, nth_there, nth_has, nth_map}
+use Rattle.history.proofs.Nth.{nth_push, nth_last, nth_there, nth_has, nth_map}
 use Rattle.history.specs.Clocks.{Clock, Clocked, missing, of_event}
 use Rattle.history.specs.Histories.{opened, events_of, event, count, total, noted, nth, wait, wait_of}
 use Rattle.sheet.proofs.Tables.{get_or_map_default}
@@ -141,7 +142,7 @@ module _ (t t' : Table) (s : ℕ) (x : Slot) (on : s < length (rows t))
             is_new : suc (length (row t s)) ≤ k → Clock (noted (held t) s x.event) s k y.clock
             is_new l =
                 let e : k ≡ suc (length (row t s)) = omega (arith, nth_there (row t s ++ x ∷ []) k y found, length_push (row t s) x) in
-                let same : x ≡ y = same_some x y (sym (nth_last (row t s) x) ∙ ap (nth (row t s ++ x ∷ [])) (sym e) ∙ found) in
+                let same : x ≡ y = same_Some x y (sym (nth_last (row t s) x) ∙ ap (nth (row t s ++ x ∷ [])) (sym e) ∙ found) in
                 subst (λ i. Clock (noted (held t) s x.event) s i y.clock) (sym e)
                 (subst (λ z. Clock (noted (held t) s x.event) s (suc (length (row t s))) z.clock) same newest)
 

@@ -1,16 +1,14 @@
 -- The clocks of a sheet say which event comes earlier in every compatible order.
-use Rattle.std.proofs.Common.{◌≡◌, ℕ, ◌<◌, Bool, true, false, not, ◌&&◌, ◌==◌, leb, List, get_or, Some, Ok, Decides, Option, sym, ◌∙◌, subst, arith}
+use Rattle.std.proofs.Common.{◌≡◌, ℕ, Bool, true, false, not, ◌&&◌, ◌==◌, leb, List, get_or, Some, Ok, Decides, Option, sym, ◌∙◌, subst}
 use mathlib.Core.Bool.{Bool-set}
 use mathlib.Core.Logic.{∥∥₁_elim}
 use Rattle.std.proofs.lemmas.Bool.Decides.{Decides-and, Decides-eqb, Decides-not}
 use Rattle.std.proofs.lemmas.Bool.{and_parts, and_from, and_left, le-leb, leb-true}
-use Rattle.history.proofs.Noted.{on_sheet}
 use Rattle.history.proofs.Precedes.{within_earlier, earlier_within}
 use Rattle.history.specs.Clocks.{Clocked, OneClock}
 use Rattle.history.specs.Histories.{History}
 use Rattle.history.specs.Precedence.{Has, AlwaysEarlier, Preceded}
 use Rattle.history.specs.declared.EventId.{EventId}
-use Rattle.sheet.proofs.Held.{held_length}
 use Rattle.sheet.specs.Sheets.{history}
 use Rattle.sheet.specs.declared.types.Sheet.{Sheet}
 
@@ -24,10 +22,6 @@ differs a b c d r e =
 pub event_there : (h : History) (e : EventId) (o : Option (List ℕ)) (v : List ℕ) → Clocked h e.station e.number o → o ≡ Some v
     → Has h e × OneClock h e.station e.number v
 event_there h e o v k p = subst (Clocked h e.station e.number) p k
-
-pub station_on : (sheet : Sheet) (e : EventId) → Has (history sheet) e → e.station < 8
-station_on sheet e l =
-    omega (arith, on_sheet (history sheet) e.station e.number l, held_length sheet.table, sheet.few)
 
 module _ (sheet : Sheet) (a b : EventId) (u v : List ℕ)
     (first : Has (history sheet) a × OneClock (history sheet) a.station a.number u)

@@ -69,6 +69,7 @@ impl Sheet {
     }
 
     // Notes the event, or says why not.
+    // Kept: station and event, since each function uses them apart and would take a struct of both to pieces.
     fn put(&mut self, station: u8, event: Event) -> Result<(), Refusal>
         ensures answer { result ≡ note_answer (history self.old) station event }
         ensures after { history self.new ≡ after_note (history self.old) station event }

@@ -10,6 +10,7 @@ const VERSION: u16 = 1;
 const RECORD: usize = 8;
 
 // The file's station count and the bytes of its records.
+// Kept: a rule file begins alike, but one function for both would take the mark and two refusals, for a pattern and a test.
 pub(crate) fn header(file: &[u8]) -> Result<(u8, &[u8]), Refusal>
     ensures { Header file.now result }
 {

@@ -6,5 +6,5 @@ use Rattle.rule.proofs.pass.passed.Given as goal
 -- the items to come lead where all items lead
 abbrev pub invariant-loop-item : goal.invariant-loop-item
 invariant-loop-item l =
-    (passed l.guards l.event l.pass (drop l.item-index l.items) ≡ passed l.guards l.event (begun l.ahead) l.items)
+    (passed l.letters.guards.now l.letters.event l.pass (drop l.item-index l.items) ≡ passed l.letters.guards.now l.letters.event (begun l.ahead) l.items)
     × Bounded l.item-index l.pass

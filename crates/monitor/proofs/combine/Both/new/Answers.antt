@@ -1,9 +1,5 @@
-use Rattle.std.proofs.Common.{refl}
 use Rattle.monitor.proofs.BothDriven.{both_driven}
 use Rattle.monitor.proofs.combine.Both.new.Goals as goal
 
-pub returns : goal.returns
-returns g c = record {
-  parts = refl;
-  driven = both_driven _ _ (g.L.Monitor.lawful c.args.left) (g.R.Monitor.lawful c.args.right);
-}
+pub returns-clause-driven : goal.returns-clause-driven
+returns-clause-driven g c = both_driven _ _ (g.L.Monitor.lawful c.args.left) (g.R.Monitor.lawful c.args.right)

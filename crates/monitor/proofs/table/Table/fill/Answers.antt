@@ -1,10 +1,8 @@
-use Rattle.std.proofs.Common.{rules}
 use Rattle.monitor.proofs.Tables.{arc_steps}
-use Rattle.monitor.specs.Described.{described}
 use Rattle.monitor.proofs.table.Table.fill.Goals as goal
 
-pub returns-in_err : goal.returns-in_err
-returns-in_err c = record { answer = search rules; filled = search rules; steps = arc_steps (described c.args.self.now); kept = search rules }
+pub returns-then-not-is_lawful-clause-steps : goal.returns-then-not-is_lawful-clause-steps
+returns-then-not-is_lawful-clause-steps c = arc_steps _
 
-pub returns : goal.returns
-returns c = record { answer = search rules; filled = search rules; steps = arc_steps _; kept = search rules }
+pub returns-clause-steps : goal.returns-clause-steps
+returns-clause-steps c = arc_steps _

@@ -1,28 +1,27 @@
-use Rattle.std.proofs.Common.{sym, ap, ◌∙◌}
-use Rattle.std.proofs.lemmas.Bool.{and_left, and_right, ne_eqb}
-use Rattle.monitor.proofs.Tables.{found, left_more, stays_more, miss_more}
+use Rattle.std.proofs.Common.{true, arith}
+use Rattle.monitor.proofs.Tables.{Read, guard_read, reads, found, elsewhere, passed}
 use Rattle.monitor.specs.Described.{described}
 use Rattle.monitor.proofs.table.Table.moves.Goals as goal
-use Rattle.monitor.proofs.table.Table.moves.Goals.{then-leads+else-read_arc-to, else-leads}
+use Rattle.monitor.proofs.table.Table.moves.Goals.{then-leads+else-arc-to, else-leads}
 
-pub returns-then-read_arc-to : goal.returns-then-read_arc-to
-returns-then-read_arc-to c =
-    sym (found (described c.args.self.now) c.args.from c.args.event c.args.to c.loop-k.k c.loop-k-test.true
-    (sym c.leads.ensures ∙ c.if-leads.true) (sym (ap (λ a. a.to) c.read_arc.ensures) ∙ c.if-read_arc-to.true))
+pub leads-requires : goal.leads-requires
+leads-requires c =
+    omega (arith, guard_read (described c.args.self.now) c.args.self.now.lawful c.loop-bytes.bytes-index c.from-arc.result (omega arith) cc)
 
-pub loop-k-preserved : goal.loop-k-preserved
-loop-k-preserved c =
+pub returns-then-arc-to : goal.returns-then-arc-to
+returns-then-arc-to c =
+    found _ _ _ _ c.loop-bytes.bytes-index c.from-arc.result
+    (reads (described c.args.self.now) c.args.self.now.lawful c.args.from c.args.event _ _ true (omega arith) (cc) (cc)) c.if-arc-to.true
+
+pub loop-bytes-preserved : goal.loop-bytes-preserved
+loop-bytes-preserved c =
+    let d = described c.args.self.now in
+    let k = c.loop-bytes.bytes-index in
+    let a = c.from-arc.result in
+    let read : Read d c.args.from c.args.event k a c.leads.result =
+    reads d c.args.self.now.lawful c.args.from c.args.event k a c.leads.result (omega arith) (cc) (cc) in
     elim c.if-leads.branch [
-      | then-leads+else-read_arc-to w ↦ (
-        w.leaves-is ∙ left_more (described c.args.self.now) c.args.from c.args.event c.args.to c.loop-k.k
-            (sym c.leads.ensures ∙ w.if-leads.true),
-        miss_more (described c.args.self.now) c.args.from c.args.event c.args.to c.loop-k.k c.loop-k.invariant.1
-            (and_right _ _ (ne_eqb _ _ (λ p. w.if-read_arc-to.false (ap (λ a. a.to) w.read_arc.ensures ∙ p)))),
-      )
-      | else-leads w ↦ (
-        w.leaves-is ∙ stays_more (described c.args.self.now) c.args.from c.args.event c.args.to c.loop-k.k _ c.loop-k.invariant.0
-            (sym c.leads.ensures ∙ w.if-leads.false),
-        miss_more (described c.args.self.now) c.args.from c.args.event c.args.to c.loop-k.k c.loop-k.invariant.1
-            (and_left _ _ (sym c.leads.ensures ∙ w.if-leads.false)),
-      )
+      | then-leads+else-arc-to w ↦ rw w.stays-is (elsewhere d c.args.from c.args.event c.args.to k a _ c.loop-bytes.invariant
+          (rw w.if-leads.true at read) w.if-arc-to.false)
+      | else-leads w ↦ rw w.stays-is (passed d c.args.from c.args.event c.args.to k a _ c.loop-bytes.invariant (rw w.if-leads.false at read))
     ]

@@ -1,15 +1,6 @@
 use Rattle.std.proofs.Common.{arith}
-use Rattle.sheet.proofs.Accepts.{there, station_below, room, appended, appended_length, appended_made, appended_kept}
+use Rattle.sheet.proofs.Accepts.{appended, appended_length, appended_made, appended_kept}
 use Rattle.sheet.proofs.types.Sheet.append.Goals as goal
-
-pub next_clock-clock-requires : goal.next_clock-clock-requires
-next_clock-clock-requires c = station_below c.args.self.now c.args.station c.args.event c.requires
-
-pub push-requires : goal.push-requires
-push-requires c = record {
-  there = there c.args.self.now c.args.station c.args.event c.requires;
-  room = room c.args.self.now c.args.station c.args.event c.requires;
-}
 
 pub invariant_of-self : goal.invariant_of-self
 invariant_of-self c =

@@ -1,11 +1,6 @@
-use Rattle.sheet.proofs.Precedes.{differs, event_there, station_on, answers_same, answers_apart}
+use Rattle.sheet.proofs.Precedes.{differs, event_there, answers_same, answers_apart}
 use Rattle.sheet.specs.Sheets.{history}
 use Rattle.sheet.proofs.types.Sheet.precedes.Goals as goal
-
-pub bounds-reach-first : goal.bounds-reach-first
-bounds-reach-first c =
-    station_on c.args.self.now c.args.first
-    (event_there (history c.args.self.now) c.args.first _ _ c.clock.ensures c.in_ok-ok_or.ensures.ok_part).0
 
 pub returns-then-ne : goal.returns-then-ne
 returns-then-ne c =

@@ -1,0 +1,13 @@
+use Rattle.std.proofs.Common.{◌≡◌, rules, tests}
+use Rattle.std.proofs.lemmas.Iterator.{YieldsList-from_slice}
+use Rattle.std.proofs.lemmas.Iterator.Search.{all_from_yields_List}
+use Rattle.std.specs.List.{list_all}
+use Rattle.monitor.proofs.Records.{every_guard}
+use Rattle.monitor.specs.Tables.{guard_lawful}
+use Rattle.monitor.proofs.parts.Parts.has_lawful_guards.Goals as goal
+
+pub returns : goal.returns
+returns c =
+    let run : c.all.result ≡ list_all (λ b. guard_lawful b 0) c.as_chunks.result.0.now =
+    all_from_yields_List (λ b. guard_lawful b 0) _ _ c.all.result c.all.ensures.ran (YieldsList-from_slice c.as_chunks.result.0.now cc) (λ x b q k. search (rules, tests)) in
+    cc (every_guard _ c.args.self.now.guards.now)
