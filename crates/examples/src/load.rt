@@ -39,6 +39,7 @@ fn a_run_file_becomes_the_sheet(rt: HostRuntime) {
 // Every file cut short answers its refusal and leaves the sheet, but for those that end behind a whole record.
 #[test]
 fn truncations(rt: HostRuntime) {
+    // Kept: n is no index, but how long the file is.
     for n in 0..FILE.len() {
         let expected = match n {
             0..=5 => Err((1, 0)),

@@ -10,6 +10,9 @@ one_same s t p = cond-true (eqb s t) 1 0 (eq-eqb s t p)
 pub one_other : (s t : ℕ) → (s ≡ t → ⊥) → one_if s t ≡ 0
 one_other s t p = cond-false (eqb s t) 1 0 (ne_eqb s t p)
 
+pub one_most : (s t : ℕ) → one_if s t ≤ 1
+one_most s t = ⊎_elim (λ (p : s ≡ t). omega (arith, one_same s t p)) (λ p. omega (arith, one_other s t p)) (cases_eq s t)
+
 -- one position more
 pub occurs_more : (t : ℕ) (o : List ℕ) (i : ℕ) → i < length o → occurs t (take (suc i) o) ≡ occurs t (take i o) + one_if (get_or o i 0) t
 occurs_more t [] i l = let z : ⊥ = omega arith in absurd z

@@ -22,6 +22,7 @@ fn read(rt: &HostRuntime, path: &str) -> Option<Vec<u8>> {
 
 fn show(rt: &HostRuntime, sheet: &Sheet) -> anyhow::Result<()> {
     rt.println(Heading::of(sheet))?;
+    // Kept: stations and numbers are the names by which a sheet is asked.
     for station in 0..sheet.stations() {
         for number in 1..=sheet.events(station) {
             if let Some(line) = EventLine::of(sheet, EventId { station, number }) {

@@ -2,6 +2,7 @@ pub mod Meanings
 pub mod Guards
 pub mod Combinations
 pub mod Numbering
+pub mod Asked
 pub mod Tables
 pub mod Described
 pub mod Laws

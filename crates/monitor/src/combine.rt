@@ -1,7 +1,8 @@
 // Combinations of monitors: either, both, and only the events of some variables.
-ghost use Rattle.std.specs.Prelude.{◌≡◌, ◌*◌};
+ghost use Rattle.std.specs.Prelude.{◌≡◌, ◌*◌, false};
 ghost use Rattle.monitor.specs.Combinations.{limited, either, both, only, hears};
 ghost use Rattle.monitor.specs.Numbering.{part_of, pair_of, sum_sizes, product_sizes};
+ghost use Rattle.monitor.specs.Asked.{Answers, OfPart, OfPair};
 ghost use Rattle.monitor.specs.Driven.{EitherDriven, BothDriven, OnlyDriven};
 ghost use Rattle.monitor.specs.Laws.{either_lawful, both_lawful, only_lawful};
 
@@ -84,6 +85,25 @@ impl<L: Monitor, R: Monitor> Either<L, R> {
         let right = self.right.states();
         Sizes::new(left, right, u32::from(left) + u32::from(right))
     }
+
+    // What the part that the state belongs to answers to its question; no for a number that is no state.
+    fn asked<A: FnOnce(&L, u16) -> bool, B: FnOnce(&R, u16) -> bool>(
+        &self,
+        state: u16,
+        ask_left: A,
+        ask_right: B,
+    ) -> bool
+        requires left { A.IsAlwaysCallable ask_left }
+        requires right { B.IsAlwaysCallable ask_right }
+        ensures { OfPart (Answers A.FnOnce ask_left self.now.left result) (Answers B.FnOnce ask_right self.now.right result)
+            (result ≡ false) (part_of (sum_sizes (L.Monitor.meaning self.now.left).states (R.Monitor.meaning self.now.right).states) state) }
+    {
+        match self.sizes().part(state) {
+            Some(Part::Left(state)) => ask_left(&self.left, state),
+            Some(Part::Right(state)) => ask_right(&self.right, state),
+            None => false,
+        }
+    }
 }
 
 impl<L: Monitor, R: Monitor> Monitor for Either<L, R> {
@@ -95,21 +115,12 @@ impl<L: Monitor, R: Monitor> Monitor for Either<L, R> {
         self.sizes().whole
     }
 
-    // Kept: the two questions name different methods of both parts, and a match says that more plainly than two closures for each.
     fn starts(&self, state: u16) -> bool {
-        match self.sizes().part(state) {
-            Some(Part::Left(state)) => self.left.starts(state),
-            Some(Part::Right(state)) => self.right.starts(state),
-            None => false,
-        }
+        self.asked(state, L::starts, R::starts)
     }
 
     fn is_bad(&self, state: u16) -> bool {
-        match self.sizes().part(state) {
-            Some(Part::Left(state)) => self.left.is_bad(state),
-            Some(Part::Right(state)) => self.right.is_bad(state),
-            None => false,
-        }
+        self.asked(state, L::is_bad, R::is_bad)
     }
 
     fn steps(&self, from: u16, event: Label, to: u16) -> bool {
@@ -144,6 +155,24 @@ impl<L: Monitor, R: Monitor> Both<L, R> {
         let right = self.right.states();
         Sizes::new(left, right, u32::from(left) * u32::from(right))
     }
+
+    // Whether each part says yes to its question; no for a number that is no state.
+    fn asked<A: FnOnce(&L, u16) -> bool, B: FnOnce(&R, u16) -> bool>(
+        &self,
+        state: u16,
+        ask_left: A,
+        ask_right: B,
+    ) -> bool
+        requires left { A.IsAlwaysCallable ask_left }
+        requires right { B.IsAlwaysCallable ask_right }
+        ensures { OfPair (Answers A.FnOnce ask_left self.now.left) (Answers B.FnOnce ask_right self.now.right) result
+            (pair_of (product_sizes (L.Monitor.meaning self.now.left).states (R.Monitor.meaning self.now.right).states) state) }
+    {
+        let Some((left, right)) = self.sizes().pair(state) else {
+            return false;
+        };
+        ask_left(&self.left, left) && ask_right(&self.right, right)
+    }
 }
 
 impl<L: Monitor, R: Monitor> Monitor for Both<L, R> {
@@ -156,13 +185,11 @@ impl<L: Monitor, R: Monitor> Monitor for Both<L, R> {
     }
 
     fn starts(&self, state: u16) -> bool {
-        self.sizes().pair(state).is_some_and(|(left, right)| self.left.starts(left)
-            && self.right.starts(right))
+        self.asked(state, L::starts, R::starts)
     }
 
     fn is_bad(&self, state: u16) -> bool {
-        self.sizes().pair(state).is_some_and(|(left, right)| self.left.is_bad(left)
-            && self.right.is_bad(right))
+        self.asked(state, L::is_bad, R::is_bad)
     }
 
     fn steps(&self, from: u16, event: Label, to: u16) -> bool {

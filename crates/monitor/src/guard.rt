@@ -5,6 +5,7 @@ ghost use Rattle.monitor.specs.Guards.{triggers as triggered};
 use history::Label;
 
 // A variable and the values that it is asked for: those from low to high, or, outside, the others.
+// Kept: `outside` marks no missing value. Both ends count either way, and callers name the field.
 #[derive(Clone, Copy, Debug, Default)]
 pub struct Guard {
     pub variable: u8,

@@ -24,17 +24,13 @@ pub enum SheetCall {
     Precedes(EventId, EventId),
 }
 
-// A call on the monitor of a name.
-#[derive(Drop)]
-pub enum MonitorCall {
-    Keep(Recipe),
-    Ask(Question),
-}
-
 #[derive(Drop)]
 pub enum Call {
     Sheet(SheetCall),
-    Monitor(String, MonitorCall),
+    // Puts a monitor under a name.
+    Keep(String, Recipe),
+    // Asks the monitor of a name.
+    Ask(String, Question),
 }
 
 // Why a line makes no call.
@@ -144,32 +140,26 @@ fn read_recipe(heap: Global, kind: &str, words: &[&str]) -> Result<Recipe, ReadE
     }
 }
 
-// The call of that kind on a monitor.
-fn monitor_call(heap: Global, kind: &str, words: &[&str]) -> Result<MonitorCall, ReadError> {
-    match kind {
-        "table" | "either" | "both" | "only" => {
-            Ok(MonitorCall::Keep(read_recipe(heap, kind, words)?))
-        }
-        _ => Ok(MonitorCall::Ask(read_question(kind, words)?)),
-    }
-}
-
 // The call that a line makes.
 pub fn read(heap: Global, line: &str) -> Result<Call, ReadError> {
     let words: Vec<&str> = line.split(' ').collect(heap)?;
     let [name, rest @ ..] = words.as_slice() else {
         return Err(ReadError::Unknown);
     };
-    match *name {
-        "sheet" | "open" | "note" | "load" | "reach" | "precedes" => {
-            Ok(Call::Sheet(sheet_call(heap, name, rest)?))
+    match (*name, rest) {
+        ("sheet" | "open" | "note" | "load" | "reach" | "precedes", words) => {
+            Ok(Call::Sheet(sheet_call(heap, name, words)?))
         }
-        "table" | "either" | "both" | "only" | "states" | "start" | "bad" | "step" => {
-            let [monitor, rest @ ..] = rest else {
-                return Err(ReadError::Unreadable);
-            };
-            let call = monitor_call(heap, name, rest)?;
-            Ok(Call::Monitor(String::from_str(heap, monitor)?, call))
+        ("table" | "either" | "both" | "only", [monitor, words @ ..]) => {
+            let recipe = read_recipe(heap, name, words)?;
+            Ok(Call::Keep(String::from_str(heap, monitor)?, recipe))
+        }
+        ("states" | "start" | "bad" | "step", [monitor, words @ ..]) => {
+            let question = read_question(name, words)?;
+            Ok(Call::Ask(String::from_str(heap, monitor)?, question))
+        }
+        ("table" | "either" | "both" | "only" | "states" | "start" | "bad" | "step", []) => {
+            Err(ReadError::Unreadable)
         }
         _ => Err(ReadError::Unknown),
     }

@@ -6,8 +6,8 @@ use history::Label;
 use monitor::{Both, Either, Monitor, Only};
 
 // A combination is boxed, so that a level is hardly larger than the one below.
-// Kept: a match for each of the four questions, since one function for all would hand out a part as a `dyn` value, which the gate
-// refuses.
+// Kept: a match for each of the four questions. Tried one function that hands the part to an `FnOnce(&dyn Monitor) -> A`, or out: the
+// check states no such bound, and covers no `&dyn` of an `M`. A type for each question with an `ask<P: Monitor>` would take more lines.
 #[derive(Drop)]
 pub enum Level<M> {
     One(M),

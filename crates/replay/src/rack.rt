@@ -1,6 +1,6 @@
 // The monitors of a script by their names, and what the calls on them answer.
 use crate::answer::Answer;
-use crate::call::{MonitorCall, Question};
+use crate::call::Question;
 use crate::level::Level;
 use crate::recipe::{Make, Recipe, Recipes};
 use history::Refused;
@@ -38,7 +38,7 @@ impl Rack {
         self.recipes.contains_key(name)
     }
 
-    // Whether a monitor can be made so; none where it is made of one that is not known here.
+    // Whether a monitor can be made so, if all that it is made of is known.
     fn tried(&self, recipe: &Recipe) -> Option<Result<(), Refused>> {
         match recipe {
             Recipe::Table(bytes) => Some(bytes.table().map(|_table| ())),
@@ -49,8 +49,8 @@ impl Rack {
         }
     }
 
-    // Puts a monitor under a name, which may be new.
-    fn keep(&mut self, name: String, recipe: Recipe) -> Result<Option<Answer>, AllocError> {
+    // Puts a monitor under a name, which may be new; none where it is made of one that is not known here.
+    pub fn keep(&mut self, name: String, recipe: Recipe) -> Result<Option<Answer>, AllocError> {
         let answer = self.tried(&recipe);
         if let Some(Ok(())) = answer {
             self.recipes.insert(name, recipe)?;
@@ -58,23 +58,12 @@ impl Rack {
         Ok(answer.map(Answer::from))
     }
 
-    fn ask(&self, name: &str, question: Question) -> Result<Option<Answer>, AllocError> {
+    // None where the name is not known here.
+    pub fn ask(&self, name: &str, question: Question) -> Result<Option<Answer>, AllocError> {
         if !self.knows(name) {
             return Ok(None);
         }
         let monitor = Deep::make(self.heap, &self.recipes, name)?;
         Ok(Some(asked(&monitor, question)))
-    }
-
-    // None where the call is on a monitor that is not known here.
-    pub fn answer(
-        &mut self,
-        name: String,
-        call: MonitorCall,
-    ) -> Result<Option<Answer>, AllocError> {
-        match call {
-            MonitorCall::Keep(recipe) => self.keep(name, recipe),
-            MonitorCall::Ask(question) => self.ask(name.as_str(), question),
-        }
     }
 }

@@ -54,7 +54,8 @@ impl Tally {
     fn answer(&mut self, call: &str) -> Result<Option<Answer>, AllocError> {
         match call::read(self.heap, call) {
             Ok(Call::Sheet(call)) => Ok(Some(self.desk.answer(call))),
-            Ok(Call::Monitor(name, call)) => self.rack.answer(name, call),
+            Ok(Call::Keep(name, recipe)) => self.rack.keep(name, recipe),
+            Ok(Call::Ask(name, question)) => self.rack.ask(name.as_str(), question),
             Err(ReadError::Unreadable) => Ok(Some(Answer::Unreadable)),
             Err(ReadError::Unknown) => Ok(None),
             Err(ReadError::Memory(error)) => Err(error),

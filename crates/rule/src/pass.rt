@@ -77,6 +77,7 @@ impl Pass {
     }
 
     // The pass behind one more item.
+    // Kept: by a rule of the project items are cases on characters.
     fn valued(self, letters: &Letters<'_>, item: u8) -> Self
         requires stack_bound { self.stack < 2 ^ 63 }
         requires weight_bound { self.weight < 2 ^ 62 }

@@ -49,6 +49,7 @@ impl Progress {
     }
 
     // The progress behind one more item.
+    // Kept: by a rule of the project items are cases on characters.
     fn stepped(self, kind: Kind, guards: u8, item: u8) -> Result<Progress, Refusal>
         requires depth_bound { self.depth < 255 }
         requires end_bound { self.end < 2 ^ self.temporal }

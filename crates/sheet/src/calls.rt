@@ -111,6 +111,7 @@ impl Sheet {
         let (chunks, _) = records.as_chunks::<8>();
         for (k, record) in chunks.iter().enumerate() {
             let number = k as u16 + 1;
+            // Kept: by a rule of the project a pattern names the eight bytes of a record.
             let [station, variable, a, b, c, d, awaited, count] = *record;
             let wait = Wait {
                 station: awaited,
