@@ -12,8 +12,14 @@ WORDS = {"if", "else", "match", "for", "in", "return", "while", "let", "mut", "a
 def functions(folder):
     for path in sorted(pathlib.Path(folder).glob("*/src/*.rt")):
         text = re.sub(r"//[^\n]*", "", path.read_text())
-        for found in re.finditer(r"fn (\w+)[^({]*\(", text):
-            yield path, found.group(1), *parts(text, found.end())
+        for found in re.finditer(r"\bfn (\w+)(?=[<(])", text):
+            yield path, found.group(1), *parts(text, after_generics(text, found.end()) + 1)
+
+
+def after_generics(text, at):
+    if text[at] != "<":
+        return at
+    return closing(text.replace("->", "  "), at + 1, "<", ">")
 
 
 def closing(text, at, opens, closes):

@@ -2,7 +2,6 @@
 use crate::told::{id, sets, size, told};
 use history::{Event, Wait};
 use sheet::Sheet;
-use std::process::Abort;
 
 // Two stations; the second's event awaits the first's.
 const FILE: &[u8; 22] = b"RUN\0\x01\x02\
@@ -36,60 +35,64 @@ fn a_run_file_becomes_the_sheet(rt: HostRuntime) {
     assert_eq!(rt; sheet.clock(id(1, 1)), Some([1, 1, 0, 0, 0, 0, 0, 0]));
 }
 
+// What load answers on a used sheet, and the size of the sheet then.
+fn loaded(file: &[u8]) -> (Result<(), (u8, u16)>, (u8, u16)) {
+    let mut sheet = used();
+    let answer = told(sheet.load(file));
+    (answer, size(&sheet))
+}
+
+// A refusal, which leaves the used sheet.
+fn refused(number: u8, place: u16) -> (Result<(), (u8, u16)>, (u8, u16)) {
+    (Err((number, place)), (1, 1))
+}
+
 // Every file cut short answers its refusal and leaves the sheet, but for those that end behind a whole record.
 #[test]
 fn truncations(rt: HostRuntime) {
     // Kept: n is no index, but how long the file is.
     for n in 0..FILE.len() {
-        let expected = match n {
-            0..=5 => Err((1, 0)),
-            6 | 14 => Ok(()),
-            _ => Err((4, 0)),
-        };
-        assert_eq!(rt; loaded(&rt, &FILE[..n]), expected);
+        let found = loaded(&FILE[..n]);
+        match n {
+            0..=5 => assert_eq!(rt; found, refused(1, 0)),
+            6 | 14 => assert_eq!(rt; found.0, Ok(())),
+            _ => assert_eq!(rt; found, refused(4, 0)),
+        }
     }
 }
 
-// What load answers on a used sheet, which a refusal leaves.
-fn loaded(rt: &impl Abort, file: &[u8]) -> Result<(), (u8, u16)> {
-    let mut sheet = used();
-    let answer = told(sheet.load(file));
-    assert!(rt; answer.is_ok() || size(&sheet) == (1, 1));
-    answer
-}
-
 // One byte of the file changed: what load answers then.
-fn with(rt: &impl Abort, at: usize, byte: u8) -> Result<(), (u8, u16)> {
+fn with(at: usize, byte: u8) -> (Result<(), (u8, u16)>, (u8, u16)) {
     let mut file = *FILE;
     if let Some(place) = file.get_mut(at) {
         *place = byte;
     }
-    loaded(rt, &file)
+    loaded(&file)
 }
 
 #[test]
 fn a_wrong_byte_of_the_header(rt: HostRuntime) {
-    assert_eq!(rt; with(&rt, 0, 114), Err((1, 0)));
-    assert_eq!(rt; with(&rt, 1, 0), Err((1, 0)));
-    assert_eq!(rt; with(&rt, 2, 76), Err((1, 0)));
-    assert_eq!(rt; with(&rt, 3, 1), Err((2, 0)));
-    assert_eq!(rt; with(&rt, 4, 0), Err((2, 0)));
-    assert_eq!(rt; with(&rt, 4, 2), Err((2, 0)));
-    assert_eq!(rt; with(&rt, 5, 0), Err((3, 0)));
-    assert_eq!(rt; with(&rt, 5, 9), Err((3, 0)));
+    assert_eq!(rt; with(0, 114), refused(1, 0));
+    assert_eq!(rt; with(1, 0), refused(1, 0));
+    assert_eq!(rt; with(2, 76), refused(1, 0));
+    assert_eq!(rt; with(3, 1), refused(2, 0));
+    assert_eq!(rt; with(4, 0), refused(2, 0));
+    assert_eq!(rt; with(4, 2), refused(2, 0));
+    assert_eq!(rt; with(5, 0), refused(3, 0));
+    assert_eq!(rt; with(5, 9), refused(3, 0));
 }
 
 #[test]
 fn a_wrong_byte_of_a_record(rt: HostRuntime) {
-    assert_eq!(rt; with(&rt, 6, 2), Err((5, 1)));
-    assert_eq!(rt; with(&rt, 7, 32), Err((6, 1)));
-    assert_eq!(rt; with(&rt, 12, 1), Err((8, 1)));
-    assert_eq!(rt; with(&rt, 13, 1), Err((9, 1)));
-    assert_eq!(rt; with(&rt, 14, 2), Err((5, 2)));
-    assert_eq!(rt; with(&rt, 15, 32), Err((6, 2)));
-    assert_eq!(rt; with(&rt, 20, 2), Err((8, 2)));
-    assert_eq!(rt; with(&rt, 21, 2), Err((9, 2)));
-    assert_eq!(rt; with(&rt, 21, 0), Ok(()));
+    assert_eq!(rt; with(6, 2), refused(5, 1));
+    assert_eq!(rt; with(7, 32), refused(6, 1));
+    assert_eq!(rt; with(12, 1), refused(8, 1));
+    assert_eq!(rt; with(13, 1), refused(9, 1));
+    assert_eq!(rt; with(14, 2), refused(5, 2));
+    assert_eq!(rt; with(15, 32), refused(6, 2));
+    assert_eq!(rt; with(20, 2), refused(8, 2));
+    assert_eq!(rt; with(21, 2), refused(9, 2));
+    assert_eq!(rt; with(21, 0).0, Ok(()));
 }
 
 // 64 events of one station, and one more.

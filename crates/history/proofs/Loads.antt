@@ -114,8 +114,7 @@ made_total h m =
     made_small k (empty n _ l) = small_opened n l
     made_small k (more {h = k₀} s e m₀ ok) = small_noted k₀ record { station = s; event = e } (made_small k₀ m₀) ok
 
--- the first record of eight bytes and more
--- one accepted record: what is left leads where it led before
+-- one event more with each accepted record
 pub total_more : (h : History) (s : ℕ) (e : Event) → note_answer h s e ≡ Ok tt → total (after_note h s e) ≡ total h + 1
 total_more h s e ok =
     ap (λ a. total (cond (is_ok a) (noted h s e) h)) ok

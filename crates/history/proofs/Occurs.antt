@@ -1,5 +1,5 @@
 -- How often a station stands in a list, and at which positions.
-use Rattle.std.proofs.Common.{◌≡◌, ℕ, zero, suc, ◌+◌, ◌<◌, ◌≤◌, eqb, List, [], ◌∷◌, length, get_or, take, sym, ap, ◌∙◌, ⊎_elim, arith}
+use Rattle.std.proofs.Common.{◌≡◌, ℕ, zero, suc, ◌+◌, ◌<◌, ◌≤◌, eqb, List, [], ◌∷◌, ◌++◌, length, get_or, take, sym, ap, ◌∙◌, ⊎_elim, arith}
 use Rattle.std.proofs.lemmas.List.{take_all}
 use Rattle.std.proofs.lemmas.Bool.{cases_eq, cases_lt, cond-true, cond-false, eq-eqb, ne_eqb}
 use Rattle.history.specs.Orders.{one_if, occurs, Stands}
@@ -12,6 +12,10 @@ one_other s t p = cond-false (eqb s t) 1 0 (ne_eqb s t p)
 
 pub one_most : (s t : ℕ) → one_if s t ≤ 1
 one_most s t = ⊎_elim (λ (p : s ≡ t). omega (arith, one_same s t p)) (λ p. omega (arith, one_other s t p)) (cases_eq s t)
+
+pub occurs_append : (t : ℕ) (a b : List ℕ) → occurs t (a ++ b) ≡ occurs t a + occurs t b
+occurs_append t [] b = omega arith
+occurs_append t (s ∷ a) b = omega (arith, occurs_append t a b)
 
 -- one position more
 pub occurs_more : (t : ℕ) (o : List ℕ) (i : ℕ) → i < length o → occurs t (take (suc i) o) ≡ occurs t (take i o) + one_if (get_or o i 0) t

@@ -148,6 +148,7 @@ impl<L: Monitor, R: Monitor> Both<L, R> {
         Both { left, right }
     }
 
+    // Kept: beside `sizes` of `Either`, which differs in one operator; one function would take the operator and both parts.
     fn sizes(&self) -> Sizes
         ensures { result ≡ product_sizes (L.Monitor.meaning self.now.left).states (R.Monitor.meaning self.now.right).states }
     {

@@ -28,7 +28,7 @@ impl<'a> Table<'a> {
     }
 
     // Becomes the table of these states, initial state, mask of bad states, guards and arcs.
-    // Kept: callers give the five apart, as the public signature has it; within, they travel as one value.
+    // Kept: five arguments, which a caller has apart. A public struct of them would be filled for this one call.
     pub fn fill(
         &mut self,
         states: u8,
@@ -50,7 +50,7 @@ impl<'a> Table<'a> {
             arcs,
         };
         if !parts.is_lawful() {
-            return Err(Refused::from(Refusal::BadTable));
+            return Err(Refusal::BadTable.at(0));
         }
         *self = Table { parts };
         Ok(())
@@ -59,7 +59,7 @@ impl<'a> Table<'a> {
 
 impl Table<'_> {
     // Whether the event takes the one state to the other: by an arc, or, where no arc leads on, to itself.
-    // Kept: by a rule of the project a loop over the arcs decides a step.
+    // By a rule of the project a loop over the arcs decides a step.
     fn moves(&self, from: u8, event: Label, to: u8) -> bool
         ensures { result ≡ moves (described self.now) from event to }
     {

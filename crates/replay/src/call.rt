@@ -33,41 +33,41 @@ pub enum Call {
     Ask(String, Question),
 }
 
-// Why a line makes no call.
+// Why a call is not answered.
 #[derive(Debug, Drop)]
-pub enum ReadError {
-    // It names no call that is known here.
+pub enum CallError {
+    // Its name, or the name of a monitor in it, is not known here.
     Unknown,
-    // It names one, and its other words are not what that call takes.
+    // Its words are not what the call of its name takes.
     Unreadable,
     Memory(AllocError),
 }
 
-impl From<AllocError> for ReadError {
-    fn from(error: AllocError) -> ReadError {
-        ReadError::Memory(error)
+impl From<AllocError> for CallError {
+    fn from(error: AllocError) -> CallError {
+        CallError::Memory(error)
     }
 }
 
-impl From<ParseIntError> for ReadError {
-    fn from(_error: ParseIntError) -> ReadError {
-        ReadError::Unreadable
+impl From<ParseIntError> for CallError {
+    fn from(_error: ParseIntError) -> CallError {
+        CallError::Unreadable
     }
 }
 
-impl From<FromHexError> for ReadError {
-    fn from(_error: FromHexError) -> ReadError {
-        ReadError::Unreadable
+impl From<FromHexError> for CallError {
+    fn from(_error: FromHexError) -> CallError {
+        CallError::Unreadable
     }
 }
 
 // Bytes as two lower-case digits each; a lone `-` stands for none.
-fn bytes(heap: Global, text: &str) -> Result<Vec<u8>, ReadError> {
+fn bytes(heap: Global, text: &str) -> Result<Vec<u8>, CallError> {
     if text == "-" {
         return Ok(Vec::new(heap));
     }
     if text.bytes().any(|digit| digit.is_ascii_uppercase()) {
-        return Err(ReadError::Unreadable);
+        return Err(CallError::Unreadable);
     }
     let mut bytes = vec![in heap; 0; text.len() / 2]?;
     hex::decode_to_slice(text, &mut bytes)?;
@@ -82,7 +82,7 @@ fn event_id(station: &str, number: &str) -> Result<EventId, ParseIntError> {
 }
 
 // The call on a sheet that has the name and takes the words.
-fn sheet_call(heap: Global, name: &str, words: &[&str]) -> Result<SheetCall, ReadError> {
+fn sheet_call(heap: Global, name: &str, words: &[&str]) -> Result<SheetCall, CallError> {
     match (name, words) {
         ("sheet", [number]) => Ok(SheetCall::Choose(number.parse()?)),
         ("open", [count]) => Ok(SheetCall::Open(count.parse()?)),
@@ -101,11 +101,11 @@ fn sheet_call(heap: Global, name: &str, words: &[&str]) -> Result<SheetCall, Rea
         ("load", [file]) => Ok(SheetCall::Load(bytes(heap, file)?)),
         ("reach", [station, number]) => Ok(SheetCall::Reach(event_id(station, number)?)),
         ("precedes", [s, n, t, k]) => Ok(SheetCall::Precedes(event_id(s, n)?, event_id(t, k)?)),
-        _ => Err(ReadError::Unreadable),
+        _ => Err(CallError::Unreadable),
     }
 }
 
-fn read_question(kind: &str, words: &[&str]) -> Result<Question, ReadError> {
+fn read_question(kind: &str, words: &[&str]) -> Result<Question, CallError> {
     match (kind, words) {
         ("states", []) => Ok(Question::States),
         ("start", [state]) => Ok(Question::Start(state.parse()?)),
@@ -118,12 +118,12 @@ fn read_question(kind: &str, words: &[&str]) -> Result<Question, ReadError> {
             };
             Ok(Question::Step(event, from.parse()?, to.parse()?))
         }
-        _ => Err(ReadError::Unreadable),
+        _ => Err(CallError::Unreadable),
     }
 }
 
 // How the monitor of that kind is made.
-fn read_recipe(heap: Global, kind: &str, words: &[&str]) -> Result<Recipe, ReadError> {
+fn read_recipe(heap: Global, kind: &str, words: &[&str]) -> Result<Recipe, CallError> {
     let name = |word: &str| String::from_str(heap, word);
     match (kind, words) {
         ("table", [states, initial, bad, guards, arcs]) => Ok(Recipe::Table(TableBytes {
@@ -136,15 +136,16 @@ fn read_recipe(heap: Global, kind: &str, words: &[&str]) -> Result<Recipe, ReadE
         ("either", [left, right]) => Ok(Recipe::Either(name(left)?, name(right)?)),
         ("both", [left, right]) => Ok(Recipe::Both(name(left)?, name(right)?)),
         ("only", [mask, below]) => Ok(Recipe::Only(mask.parse()?, name(below)?)),
-        _ => Err(ReadError::Unreadable),
+        _ => Err(CallError::Unreadable),
     }
 }
 
 // The call that a line makes.
-pub fn read(heap: Global, line: &str) -> Result<Call, ReadError> {
+// Kept: names stand here and where words are read. Here they tell whether a call is known, there whether it can be read.
+pub fn read(heap: Global, line: &str) -> Result<Call, CallError> {
     let words: Vec<&str> = line.split(' ').collect(heap)?;
     let [name, rest @ ..] = words.as_slice() else {
-        return Err(ReadError::Unknown);
+        return Err(CallError::Unknown);
     };
     match (*name, rest) {
         ("sheet" | "open" | "note" | "load" | "reach" | "precedes", words) => {
@@ -159,8 +160,8 @@ pub fn read(heap: Global, line: &str) -> Result<Call, ReadError> {
             Ok(Call::Ask(String::from_str(heap, monitor)?, question))
         }
         ("table" | "either" | "both" | "only" | "states" | "start" | "bad" | "step", []) => {
-            Err(ReadError::Unreadable)
+            Err(CallError::Unreadable)
         }
-        _ => Err(ReadError::Unknown),
+        _ => Err(CallError::Unknown),
     }
 }

@@ -5,9 +5,7 @@ ghost use Rattle.replay.specs.Levels.{level, level_lawful};
 use history::Label;
 use monitor::{Both, Either, Monitor, Only};
 
-// A combination is boxed, so that a level is hardly larger than the one below.
-// Kept: a match for each of the four questions. Tried one function that hands the part to an `FnOnce(&dyn Monitor) -> A`, or out: the
-// check states no such bound, and covers no `&dyn` of an `M`. A type for each question with an `ask<P: Monitor>` would take more lines.
+// A combination is boxed, so that a level is hardly larger than the one below, and both compilers can build levels of levels.
 #[derive(Drop)]
 pub enum Level<M> {
     One(M),
@@ -16,44 +14,36 @@ pub enum Level<M> {
     Only(Box<Only<M>>),
 }
 
+// What the monitor of a level answers, whichever it is.
+macro_rules! ask {
+    ($level:expr, $monitor:ident => $answer:expr) => {
+        match $level {
+            Level::One($monitor) => $answer,
+            Level::Either($monitor) => $answer,
+            Level::Both($monitor) => $answer,
+            Level::Only($monitor) => $answer,
+        }
+    };
+}
+
 impl<M: Monitor> Monitor for Level<M> {
     ghost meaning = { level M.Monitor.meaning };
 
     ghost lawful = { level_lawful M.Monitor.meaning M.Monitor.lawful };
 
     fn states(&self) -> u16 {
-        match self {
-            Level::One(monitor) => monitor.states(),
-            Level::Either(either) => either.states(),
-            Level::Both(both) => both.states(),
-            Level::Only(only) => only.states(),
-        }
+        ask!(self, monitor => monitor.states())
     }
 
     fn starts(&self, state: u16) -> bool {
-        match self {
-            Level::One(monitor) => monitor.starts(state),
-            Level::Either(either) => either.starts(state),
-            Level::Both(both) => both.starts(state),
-            Level::Only(only) => only.starts(state),
-        }
+        ask!(self, monitor => monitor.starts(state))
     }
 
     fn is_bad(&self, state: u16) -> bool {
-        match self {
-            Level::One(monitor) => monitor.is_bad(state),
-            Level::Either(either) => either.is_bad(state),
-            Level::Both(both) => both.is_bad(state),
-            Level::Only(only) => only.is_bad(state),
-        }
+        ask!(self, monitor => monitor.is_bad(state))
     }
 
     fn steps(&self, from: u16, event: Label, to: u16) -> bool {
-        match self {
-            Level::One(monitor) => monitor.steps(from, event, to),
-            Level::Either(either) => either.steps(from, event, to),
-            Level::Both(both) => both.steps(from, event, to),
-            Level::Only(only) => only.steps(from, event, to),
-        }
+        ask!(self, monitor => monitor.steps(from, event, to))
     }
 }

@@ -1,9 +1,8 @@
 // The monitors of a script by their names, and what the calls on them answer.
 use crate::answer::Answer;
-use crate::call::Question;
+use crate::call::{CallError, Question};
 use crate::level::Level;
 use crate::recipe::{Make, Recipe, Recipes};
-use history::Refused;
 use monitor::{Monitor, Table};
 use std::alloc::{AllocError, Global};
 use std::collections::BTreeMap;
@@ -38,32 +37,34 @@ impl Rack {
         self.recipes.contains_key(name)
     }
 
-    // Whether a monitor can be made so, if all that it is made of is known.
-    fn tried(&self, recipe: &Recipe) -> Option<Result<(), Refused>> {
+    // Whether all that a monitor is made of is known.
+    fn knows_parts(&self, recipe: &Recipe) -> bool {
         match recipe {
-            Recipe::Table(bytes) => Some(bytes.table().map(|_table| ())),
+            Recipe::Table(_) => true,
             Recipe::Either(left, right) | Recipe::Both(left, right) => {
-                (self.knows(left.as_str()) && self.knows(right.as_str())).then_some(Ok(()))
+                self.knows(left.as_str()) && self.knows(right.as_str())
             }
-            Recipe::Only(_, below) => self.knows(below.as_str()).then_some(Ok(())),
+            Recipe::Only(_, below) => self.knows(below.as_str()),
         }
     }
 
-    // Puts a monitor under a name, which may be new; none where it is made of one that is not known here.
-    pub fn keep(&mut self, name: String, recipe: Recipe) -> Result<Option<Answer>, AllocError> {
-        let answer = self.tried(&recipe);
-        if let Some(Ok(())) = answer {
-            self.recipes.insert(name, recipe)?;
+    // Puts a monitor under a name, which may be new.
+    pub fn keep(&mut self, name: String, recipe: Recipe) -> Result<Answer, CallError> {
+        if !self.knows_parts(&recipe) {
+            return Err(CallError::Unknown);
         }
-        Ok(answer.map(Answer::from))
+        if let Err(why) = recipe.tried() {
+            return Ok(Answer::Refused(why));
+        }
+        self.recipes.insert(name, recipe).map_err(AllocError::from)?;
+        Ok(Answer::Done)
     }
 
-    // None where the name is not known here.
-    pub fn ask(&self, name: &str, question: Question) -> Result<Option<Answer>, AllocError> {
+    pub fn ask(&self, name: &str, question: Question) -> Result<Answer, CallError> {
         if !self.knows(name) {
-            return Ok(None);
+            return Err(CallError::Unknown);
         }
         let monitor = Deep::make(self.heap, &self.recipes, name)?;
-        Ok(Some(asked(&monitor, question)))
+        Ok(asked(&monitor, question))
     }
 }

@@ -44,6 +44,16 @@ impl TableBytes {
     }
 }
 
+impl Recipe {
+    // Whether the monitor can be made, as far as it lies in the recipe itself.
+    pub fn tried(&self) -> Result<(), Refused> {
+        match self {
+            Recipe::Table(bytes) => bytes.table().map(|_table| ()),
+            Recipe::Either(..) | Recipe::Both(..) | Recipe::Only(..) => Ok(()),
+        }
+    }
+}
+
 // A monitor that can be made of the recipe of a name.
 pub trait Make<'a>: Monitor + Drop {
     fn make(heap: Global, recipes: &'a Recipes, name: &str) -> Result<Self, AllocError>;
@@ -61,20 +71,19 @@ impl<'a> Make<'a> for Table<'a> {
 
 impl<'a, M: Make<'a>> Make<'a> for Level<M> {
     fn make(heap: Global, recipes: &'a Recipes, name: &str) -> Result<Level<M>, AllocError> {
+        let made = |part: &String| M::make(heap, recipes, part.as_str());
         match recipes.get(name) {
             Some(Recipe::Either(left, right)) => {
-                let left = M::make(heap, recipes, left.as_str())?;
-                let right = M::make(heap, recipes, right.as_str())?;
-                Ok(Level::Either(Box::new(heap, Either::new(left, right))?))
+                let either = Either::new(made(left)?, made(right)?);
+                Ok(Level::Either(Box::new(heap, either)?))
             }
             Some(Recipe::Both(left, right)) => {
-                let left = M::make(heap, recipes, left.as_str())?;
-                let right = M::make(heap, recipes, right.as_str())?;
-                Ok(Level::Both(Box::new(heap, Both::new(left, right))?))
+                let both = Both::new(made(left)?, made(right)?);
+                Ok(Level::Both(Box::new(heap, both)?))
             }
             Some(Recipe::Only(mask, below)) => {
-                let below = M::make(heap, recipes, below.as_str())?;
-                Ok(Level::Only(Box::new(heap, Only::new(*mask, below))?))
+                let only = Only::new(*mask, made(below)?);
+                Ok(Level::Only(Box::new(heap, only)?))
             }
             _ => Ok(Level::One(M::make(heap, recipes, name)?)),
         }

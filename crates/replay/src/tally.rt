@@ -1,7 +1,7 @@
 // How many calls of the scripts agreed with what was expected.
 use crate::answer::Answer;
 use crate::call;
-use crate::call::{Call, ReadError};
+use crate::call::{Call, CallError};
 use crate::desk::Desk;
 use crate::rack::Rack;
 use std::alloc::{AllocError, Global};
@@ -50,15 +50,11 @@ impl Tally {
         Ok(())
     }
 
-    // What a call answers; none where it is not known here.
-    fn answer(&mut self, call: &str) -> Result<Option<Answer>, AllocError> {
-        match call::read(self.heap, call) {
-            Ok(Call::Sheet(call)) => Ok(Some(self.desk.answer(call))),
-            Ok(Call::Keep(name, recipe)) => self.rack.keep(name, recipe),
-            Ok(Call::Ask(name, question)) => self.rack.ask(name.as_str(), question),
-            Err(ReadError::Unreadable) => Ok(Some(Answer::Unreadable)),
-            Err(ReadError::Unknown) => Ok(None),
-            Err(ReadError::Memory(error)) => Err(error),
+    fn answer(&mut self, call: &str) -> Result<Answer, CallError> {
+        match call::read(self.heap, call)? {
+            Call::Sheet(call) => Ok(self.desk.answer(call)),
+            Call::Keep(name, recipe) => self.rack.keep(name, recipe),
+            Call::Ask(name, question) => self.rack.ask(name.as_str(), question),
         }
     }
 
@@ -73,11 +69,15 @@ impl Tally {
         let Some((call, expected)) = line.split_once(" = ") else {
             return Ok(());
         };
-        let Some(found) = self.answer(call)? else {
-            self.passed_over = self.passed_over.saturating_add(1);
-            return Ok(());
-        };
-        self.compare(call, expected, found)
+        match self.answer(call) {
+            Ok(found) => self.compare(call, expected, found),
+            Err(CallError::Unreadable) => self.compare(call, expected, Answer::Unreadable),
+            Err(CallError::Unknown) => {
+                self.passed_over = self.passed_over.saturating_add(1);
+                Ok(())
+            }
+            Err(CallError::Memory(error)) => Err(error),
+        }
     }
 }
 

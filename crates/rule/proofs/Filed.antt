@@ -28,6 +28,9 @@ module _ (file : List ℕ) (count : ℕ) (rest : List ℕ) (o : Opened file coun
       cond-false (ltb (length file) 6 || not (marked file)) _ _ o.mark
       ∙ cond-false (not (eqb (get_or file 3 0) 0 && eqb (get_or file 4 0) 1)) _ _ (ap not o.version)
 
+  pub guards_wrong : (leb count 26 && all_listed rest count) ≡ false → file_answer file ≡ Err GuardList
+  guards_wrong q = begins ∙ cond-true (not (guards_listed file)) _ _ (ap not (sym listed_is ∙ q))
+
   pub line_wrong : (leb count 26 && all_listed rest count) ≡ true → line_shaped (drop (10 * count) rest) ≡ false → file_answer file ≡ Err LineShape
   line_wrong q l =
       begins ∙ cond-false (not (guards_listed file)) _ _ (ap not (sym listed_is ∙ q))

@@ -24,6 +24,7 @@ impl RuleLine {
         passed(&letters, &self.items[..usize::from(self.size)], ahead)
     }
 
+    // Kept: a state is a number by the interface, and an enum of start, failed state and bits would be taken to pieces at once.
     // A step between states of a future line: into a state that is not the start, from the start when the line fails here,
     // from another when the bits here are that state's.
     fn steps_ahead(&self, from: u16, event: Label, to: u16) -> bool

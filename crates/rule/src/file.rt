@@ -14,6 +14,9 @@ use monitor::{Guard, listed_guard};
 
 const VERSION: u16 = 1;
 
+// The bytes of a guard.
+const GUARD: usize = 10;
+
 // The most guards and items of a line.
 const GUARDS: usize = 26;
 
@@ -61,6 +64,7 @@ fn listed(bytes: &[u8], count: u8) -> Result<[Guard; GUARDS], Refusal>
 }
 
 // The items, and zeros behind them.
+// Kept: at most 32 items is asked here, in `outlined` and in `passed`; a type for it would be made anew for each of the three.
 fn kept(items: &[u8]) -> [u8; ITEMS]
     requires { length items.now ≤ 32 }
     ensures { take (length items.now) result ≡ items.now }
@@ -79,7 +83,7 @@ fn line_of(file: &[u8]) -> Result<RuleLine, Refused>
         return Err(Refusal::GuardList.at(0));
     }
     let guards = listed(rest, letters)?;
-    let (kind, items) = shaped(&rest[10 * letters as usize..])?;
+    let (kind, items) = shaped(&rest[GUARD * letters as usize..])?;
     let outline = outlined(kind, letters, items)?;
     Ok(RuleLine {
         kind,

@@ -10,7 +10,7 @@ use history::{Refusal, Refused};
 // The most temporal items of a line.
 const TEMPORAL: u8 = 6;
 
-#[derive(Clone, Copy)]
+#[derive(Clone, Copy, Default)]
 pub(crate) struct Progress {
     pub(crate) depth: u8,
     pub(crate) temporal: u8,
@@ -74,11 +74,7 @@ pub(crate) fn outlined(kind: Kind, guards: u8, items: &[u8]) -> Result<Progress,
     requires { length items.now ≤ 32 }
     ensures { result ≡ outlined_of (back kind) guards untaken 1 items.now }
 {
-    let mut progress = Progress {
-        depth: 0,
-        temporal: 0,
-        end: 0,
-    };
+    let mut progress = Progress::default();
     for (k, item) in items.iter().enumerate() {
         progress = progress
             .stepped(kind, guards, *item)

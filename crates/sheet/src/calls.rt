@@ -8,7 +8,7 @@ ghost use Rattle.history.specs.RunFiles.{load_answer, loaded, told};
 ghost use Rattle.sheet.specs.Sheets.{history, NotedAll};
 
 use crate::run_file::header;
-use crate::table::{EVENTS, STATIONS, Slot, Table};
+use crate::table::{EVENTS, Slot, Table, is_station_count};
 use crate::types::Sheet;
 use history::{Event, EventId, Refusal, Refused, Wait};
 
@@ -69,7 +69,7 @@ impl Sheet {
     }
 
     // Notes the event, or says why not.
-    // Kept: station and event, since each function uses them apart and would take a struct of both to pieces.
+    // Kept: station and event. A struct of both would be made for each call, and taken to pieces where the event is tried and put.
     fn put(&mut self, station: u8, event: Event) -> Result<(), Refusal>
         ensures answer { result ≡ note_answer (history self.old) station event }
         ensures after { history self.new ≡ after_note (history self.old) station event }
@@ -86,8 +86,8 @@ impl Sheet {
         ensures after { history self.new ≡ after_open (history self.old) count }
         ensures kept { is_err result ≡ true → self.new ≡ self.old }
     {
-        if count < 1 || count as usize > STATIONS {
-            Err(Refusal::StationCount)?;
+        if !is_station_count(count) {
+            return Err(Refusal::StationCount.at(0));
         }
         *self = Sheet::empty(count);
         Ok(())

@@ -1,7 +1,7 @@
 // Run files: the mark RUN, a version, a station count, and records.
 ghost use Rattle.sheet.specs.Headers.{Header};
 
-use crate::table::STATIONS;
+use crate::table::is_station_count;
 use history::Refusal;
 
 const VERSION: u16 = 1;
@@ -20,7 +20,7 @@ pub(crate) fn header(file: &[u8]) -> Result<(u8, &[u8]), Refusal>
     if u16::from_be_bytes([*high, *low]) != VERSION {
         return Err(Refusal::RunVersion);
     }
-    if *stations < 1 || *stations as usize > STATIONS {
+    if !is_station_count(*stations) {
         return Err(Refusal::StationCount);
     }
     if records.len() % RECORD != 0 {

@@ -1,6 +1,7 @@
 // The table of a sheet: for each station its events with their clocks. Plain values, without an invariant.
 ghost use Rattle.std.specs.Prelude.{◌≡◌, ◌<◌, ◌≤◌, [], ◌∷◌, ◌++◌, length, replicate, slice_set};
 ghost use Rattle.history.specs.Histories.{nth};
+ghost use Rattle.history.specs.Notes.{allowed_count};
 ghost use Rattle.sheet.specs.Tables.{rows, row, slot_count, counts, next_clock};
 
 use crate::clocks::merged;
@@ -11,6 +12,13 @@ use history::{Event, EventId, Wait};
 pub(crate) const EVENTS: usize = 64;
 
 pub(crate) const STATIONS: usize = 8;
+
+// Whether a sheet may have that many stations.
+pub(crate) fn is_station_count(count: u8) -> bool
+    ensures { result ≡ allowed_count count }
+{
+    count >= 1 && count as usize <= STATIONS
+}
 
 // An event and its clock.
 #[derive(Clone, Copy, Default)]
