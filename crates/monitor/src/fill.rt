@@ -28,7 +28,7 @@ impl<'a> Table<'a> {
     }
 
     // Becomes the table of these states, initial state, mask of bad states, guards and arcs.
-    // Kept: five arguments, which a caller has apart. A public struct of them would be filled for this one call.
+    // Kept: five arguments. A public struct of borrowed parts would hold what `Parts` holds, and be made for this one call.
     pub fn fill(
         &mut self,
         states: u8,

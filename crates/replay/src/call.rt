@@ -1,5 +1,5 @@
 // The calls of a script, read from its lines.
-use crate::recipe::{Recipe, TableBytes};
+use crate::recipe::{LineBytes, Recipe, TableBytes};
 use hex::FromHexError;
 use history::{Event, EventId, Label, Wait};
 use std::alloc::{AllocError, Global};
@@ -133,6 +133,7 @@ fn read_recipe(heap: Global, kind: &str, words: &[&str]) -> Result<Recipe, CallE
             guards: bytes(heap, guards)?,
             arcs: bytes(heap, arcs)?,
         })),
+        ("line", [file]) => Ok(Recipe::Line(LineBytes(bytes(heap, file)?))),
         ("either", [left, right]) => Ok(Recipe::Either(name(left)?, name(right)?)),
         ("both", [left, right]) => Ok(Recipe::Both(name(left)?, name(right)?)),
         ("only", [mask, below]) => Ok(Recipe::Only(mask.parse()?, name(below)?)),
@@ -141,7 +142,8 @@ fn read_recipe(heap: Global, kind: &str, words: &[&str]) -> Result<Recipe, CallE
 }
 
 // The call that a line makes.
-// Kept: names stand here and where words are read. Here they tell whether a call is known, there whether it can be read.
+// Kept: names stand here and where words are read. In one place they would still be listed twice, to tell a call that cannot be
+// read from one that is not known.
 pub fn read(heap: Global, line: &str) -> Result<Call, CallError> {
     let words: Vec<&str> = line.split(' ').collect(heap)?;
     let [name, rest @ ..] = words.as_slice() else {
@@ -151,7 +153,7 @@ pub fn read(heap: Global, line: &str) -> Result<Call, CallError> {
         ("sheet" | "open" | "note" | "load" | "reach" | "precedes", words) => {
             Ok(Call::Sheet(sheet_call(heap, name, words)?))
         }
-        ("table" | "either" | "both" | "only", [monitor, words @ ..]) => {
+        ("table" | "line" | "either" | "both" | "only", [monitor, words @ ..]) => {
             let recipe = read_recipe(heap, name, words)?;
             Ok(Call::Keep(String::from_str(heap, monitor)?, recipe))
         }
@@ -159,9 +161,8 @@ pub fn read(heap: Global, line: &str) -> Result<Call, CallError> {
             let question = read_question(name, words)?;
             Ok(Call::Ask(String::from_str(heap, monitor)?, question))
         }
-        ("table" | "either" | "both" | "only" | "states" | "start" | "bad" | "step", []) => {
-            Err(CallError::Unreadable)
-        }
+        ("table" | "line" | "either" | "both" | "only" | "states" | "start" | "bad" | "step", []) =>
+            { Err(CallError::Unreadable) }
         _ => Err(CallError::Unknown),
     }
 }

@@ -1,14 +1,18 @@
-// Combinations of monitors to a fixed depth: a level is one monitor of the level below, or a combination of such.
+// Combinations of monitors to a fixed depth: a level is one monitor of the level below, a rule line, or a combination of monitors
+// of the level below.
 ghost use Rattle.std.specs.Prelude.{◌≡◌};
 ghost use Rattle.replay.specs.Levels.{level, level_lawful};
 
 use history::Label;
 use monitor::{Both, Either, Monitor, Only};
+use rule::RuleLine;
 
-// A combination is boxed, so that a level is hardly larger than the one below, and both compilers can build levels of levels.
+// Lines and combinations are boxed, so that a level is hardly larger than the one below: the gate builds the program with two
+// compilers, and one of them cannot build levels of levels that hold their parts.
 #[derive(Drop)]
 pub enum Level<M> {
     One(M),
+    Line(Box<RuleLine>),
     Either(Box<Either<M, M>>),
     Both(Box<Both<M, M>>),
     Only(Box<Only<M>>),
@@ -19,6 +23,7 @@ macro_rules! ask {
     ($level:expr, $monitor:ident => $answer:expr) => {
         match $level {
             Level::One($monitor) => $answer,
+            Level::Line($monitor) => $answer,
             Level::Either($monitor) => $answer,
             Level::Both($monitor) => $answer,
             Level::Only($monitor) => $answer,

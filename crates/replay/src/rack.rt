@@ -40,7 +40,7 @@ impl Rack {
     // Whether all that a monitor is made of is known.
     fn knows_parts(&self, recipe: &Recipe) -> bool {
         match recipe {
-            Recipe::Table(_) => true,
+            Recipe::Table(_) | Recipe::Line(_) => true,
             Recipe::Either(left, right) | Recipe::Both(left, right) => {
                 self.knows(left.as_str()) && self.knows(right.as_str())
             }
@@ -49,7 +49,7 @@ impl Rack {
     }
 
     // Puts a monitor under a name, which may be new.
-    pub fn keep(&mut self, name: String, recipe: Recipe) -> Result<Answer, CallError> {
+    pub(crate) fn keep(&mut self, name: String, recipe: Recipe) -> Result<Answer, CallError> {
         if !self.knows_parts(&recipe) {
             return Err(CallError::Unknown);
         }
@@ -60,7 +60,7 @@ impl Rack {
         Ok(Answer::Done)
     }
 
-    pub fn ask(&self, name: &str, question: Question) -> Result<Answer, CallError> {
+    pub(crate) fn ask(&self, name: &str, question: Question) -> Result<Answer, CallError> {
         if !self.knows(name) {
             return Err(CallError::Unknown);
         }

@@ -1,9 +1,10 @@
 // The monitors of a script: how each is made, and the monitor itself, made anew for each question.
-ghost use Rattle.replay.specs.Recipes.{TableOf};
+ghost use Rattle.replay.specs.Recipes.{TableOf, LineOf};
 
 use crate::level::Level;
 use history::Refused;
 use monitor::{Both, Either, Monitor, Only, Table};
+use rule::RuleLine;
 use std::alloc::{AllocError, Global};
 use std::collections::BTreeMap;
 
@@ -16,10 +17,15 @@ pub struct TableBytes {
     pub arcs: Vec<u8>,
 }
 
-// A monitor is a table, or a combination of monitors by their names.
+// The bytes of a rule file.
+#[derive(Drop)]
+pub struct LineBytes(pub Vec<u8>);
+
+// A monitor is a table, a rule line, or a combination of monitors by their names.
 #[derive(Drop)]
 pub enum Recipe {
     Table(TableBytes),
+    Line(LineBytes),
     Either(String, String),
     Both(String, String),
     Only(u32, String),
@@ -44,11 +50,22 @@ impl TableBytes {
     }
 }
 
+impl LineBytes {
+    pub fn line(&self) -> Result<RuleLine, Refused>
+        ensures { LineOf self.now result }
+    {
+        let mut line = RuleLine::new();
+        line.read(&self.0)?;
+        Ok(line)
+    }
+}
+
 impl Recipe {
     // Whether the monitor can be made, as far as it lies in the recipe itself.
-    pub fn tried(&self) -> Result<(), Refused> {
+    pub(crate) fn tried(&self) -> Result<(), Refused> {
         match self {
             Recipe::Table(bytes) => bytes.table().map(|_table| ()),
+            Recipe::Line(bytes) => bytes.line().map(|_line| ()),
             Recipe::Either(..) | Recipe::Both(..) | Recipe::Only(..) => Ok(()),
         }
     }
@@ -73,6 +90,10 @@ impl<'a, M: Make<'a>> Make<'a> for Level<M> {
     fn make(heap: Global, recipes: &'a Recipes, name: &str) -> Result<Level<M>, AllocError> {
         let made = |part: &String| M::make(heap, recipes, part.as_str());
         match recipes.get(name) {
+            Some(Recipe::Line(bytes)) => {
+                let line = bytes.line().unwrap_or(RuleLine::new());
+                Ok(Level::Line(Box::new(heap, line)?))
+            }
             Some(Recipe::Either(left, right)) => {
                 let either = Either::new(made(left)?, made(right)?);
                 Ok(Level::Either(Box::new(heap, either)?))

@@ -1,7 +1,8 @@
 -- The promise of a rule line: its monitor can be driven to a bad state exactly when its line does not hold.
-use Rattle.std.specs.Prelude.{◌≡◌, ◌↔◌, List, ◌∷◌, Ok}
+use Rattle.std.specs.Prelude.{◌≡◌, ◌↔◌, List, ◌∷◌, Ok, Result}
 use Rattle.history.specs.declared.Label.{Label}
-use Rattle.monitor.specs.Meanings.{Drives}
+use Rattle.history.specs.declared.Refused.{Refused}
+use Rattle.monitor.specs.Meanings.{Meaning, Drives}
 use Rattle.formula.specs.Sequences.{Holds, HoldsThroughout}
 use Rattle.rule.specs.RuleFiles.{Rule, Formula, ahead, behind, formula_of}
 use Rattle.rule.specs.RuleLines.{automaton}
@@ -11,8 +12,13 @@ abbrev pub LineHolds : Formula → List Label → Type 0
 LineHolds (ahead f) w = Holds f w
 LineHolds (behind f) w = HoldsThroughout f w
 
--- the rule has a formula, and on every sequence of one event or more the two agree
-pub record RuleDriven (r : Rule) : Type 0 where
+-- the line has a formula, and a monitor of that meaning is driven to a bad state by a sequence of one event or more exactly when
+-- the line does not hold on it
+pub record LineDriven (monitor : Meaning) (line : Result Formula Refused) : Type 0 where
   pub formula : Formula
-  pub is : formula_of r ≡ Ok formula
-  pub driven : (e : Label) (w : List Label) → Drives (automaton (formula_of r)) (e ∷ w) ↔ (LineHolds formula (e ∷ w) → ⊥)
+  pub is : line ≡ Ok formula
+  pub driven : (e : Label) (w : List Label) → Drives monitor (e ∷ w) ↔ (LineHolds formula (e ∷ w) → ⊥)
+
+-- the same of a rule and the automaton of its formula
+abbrev pub RuleDriven : Rule → Type 0
+RuleDriven r = LineDriven (automaton (formula_of r)) (formula_of r)

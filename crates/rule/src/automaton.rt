@@ -1,6 +1,6 @@
 // The answers of a rule line as a monitor.
 ghost use Rattle.std.specs.Prelude.{◌≡◌, ◌≤◌, take};
-ghost use Rattle.rule.specs.Driven.{RuleDriven};
+ghost use Rattle.rule.specs.Driven.{LineDriven};
 ghost use Rattle.rule.specs.Held.{held, pass_over, steps_ahead as steps_ahead_of, steps_back as steps_back_of};
 ghost use Rattle.rule.specs.Kinds.{back};
 ghost use Rattle.rule.specs.RuleFiles.{formula_of};
@@ -24,7 +24,6 @@ impl RuleLine {
         passed(&letters, &self.items[..usize::from(self.size)], ahead)
     }
 
-    // Kept: a state is a number by the interface, and an enum of start, failed state and bits would be taken to pieces at once.
     // A step between states of a future line: into a state that is not the start, from the start when the line fails here,
     // from another when the bits here are that state's.
     fn steps_ahead(&self, from: u16, event: Label, to: u16) -> bool
@@ -60,6 +59,7 @@ impl RuleLine {
     }
 }
 
+// Kept: a state is a number by the interface, and an enum of start, failed state and bits would be taken to pieces at once.
 impl Monitor for RuleLine {
     ghost meaning = { λ l. automaton (formula_of (held l)) };
 
@@ -95,5 +95,5 @@ impl Monitor for RuleLine {
 // The promise of every rule line: its monitor can be driven to a bad state, by a sequence of one event or more, exactly when its
 // line does not hold on it.
 pub fn rule_line_driven(line: &RuleLine)
-    ensures { RuleDriven (held line.now) }
+    ensures { LineDriven (⟦<RuleLine as Monitor>⟧.meaning line.now) (formula_of (held line.now)) }
 {}

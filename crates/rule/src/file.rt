@@ -1,7 +1,7 @@
 // Rule files: the mark RUL, a version, a guard count, guards, and the line.
 ghost use Rattle.std.specs.Prelude.{◌≡◌, ◌≤◌, true, length, take, is_ok, is_err};
 ghost use Rattle.rule.specs.Parts.{Header, Listed, Shape};
-ghost use Rattle.rule.specs.Driven.{RuleDriven};
+ghost use Rattle.rule.specs.Driven.{LineDriven, RuleDriven};
 ghost use Rattle.rule.specs.Held.{held, always_held};
 ghost use Rattle.rule.specs.Reads.{LineRead};
 ghost use Rattle.rule.specs.RuleFiles.{read_answer, rule_of, told};
@@ -10,7 +10,7 @@ use crate::kind::Kind;
 use crate::line::RuleLine;
 use crate::progress::{Progress, outlined};
 use history::{Refusal, Refused};
-use monitor::{Guard, listed_guard};
+use monitor::{Guard, Monitor, listed_guard};
 
 const VERSION: u16 = 1;
 
@@ -64,7 +64,8 @@ fn listed(bytes: &[u8], count: u8) -> Result<[Guard; GUARDS], Refusal>
 }
 
 // The items, and zeros behind them.
-// Kept: at most 32 items is asked here, in `outlined` and in `passed`; a type for it would be made anew for each of the three.
+// Kept: at most 32 items is asked here, in `outlined` and in `passed`. A type for it would be made twice for the three, and opened
+// in each.
 fn kept(items: &[u8]) -> [u8; ITEMS]
     requires { length items.now ≤ 32 }
     ensures { take (length items.now) result ≡ items.now }
@@ -119,6 +120,7 @@ impl RuleLine {
         ensures answer { result ≡ told (read_answer file.now) }
         ensures holds { is_ok result ≡ true → held self.new ≡ rule_of file.now }
         ensures driven { is_ok result ≡ true → RuleDriven (rule_of file.now) }
+        ensures monitor { is_ok result ≡ true → LineDriven (⟦<RuleLine as Monitor>⟧.meaning self.new) (read_answer file.now) }
         ensures unchanged { is_err result ≡ true → self.new ≡ self.old }
     {
         *self = line_of(file)?;
