@@ -21,5 +21,5 @@ TableOf b (Err why) = (lawful_table (description b) ≡ false) × (why ≡ recor
 
 -- the line of a rule file, or the first refusal that applies
 abbrev pub LineOf : LineBytes → Result RuleLine Refused → Type 0
-LineOf b (Ok l) = held l ≡ rule_of b.0.items
+LineOf b (Ok l) = (told (read_answer b.0.items) ≡ Ok tt) × (held l ≡ rule_of b.0.items)
 LineOf b (Err why) = told (read_answer b.0.items) ≡ Err why

@@ -13,7 +13,8 @@ pub struct Rack {
     recipes: Recipes,
 }
 
-// Combinations four deep.
+// Combinations of tables four deep, and of rule lines three deep, which is as deep as scripts go. (One level more is beyond what the
+// check can carry.)
 type Deep<'a> = Level<Level<Level<Level<Table<'a>>>>>;
 
 fn asked<M: Monitor>(monitor: &M, question: Question) -> Answer {

@@ -8,6 +8,7 @@ use rule::RuleLine;
 use std::alloc::{AllocError, Global};
 use std::collections::BTreeMap;
 
+// The numbers and bytes of a table.
 #[derive(Drop)]
 pub struct TableBytes {
     pub states: u8,

@@ -12,12 +12,12 @@ abbrev pub LineHolds : Formula → List Label → Type 0
 LineHolds (ahead f) w = Holds f w
 LineHolds (behind f) w = HoldsThroughout f w
 
--- the line has a formula, and a monitor of that meaning is driven to a bad state by a sequence of one event or more exactly when
--- the line does not hold on it
-pub record LineDriven (monitor : Meaning) (line : Result Formula Refused) : Type 0 where
+-- what a line's items are read as is a formula, and a monitor of that meaning is driven to a bad state by a sequence of one event
+-- or more exactly when the formula's line does not hold on it
+pub record LineDriven (meaning : Meaning) (line : Result Formula Refused) : Type 0 where
   pub formula : Formula
   pub is : line ≡ Ok formula
-  pub driven : (e : Label) (w : List Label) → Drives monitor (e ∷ w) ↔ (LineHolds formula (e ∷ w) → ⊥)
+  pub driven : (e : Label) (w : List Label) → Drives meaning (e ∷ w) ↔ (LineHolds formula (e ∷ w) → ⊥)
 
 -- the same of a rule and the automaton of its formula
 abbrev pub RuleDriven : Rule → Type 0
