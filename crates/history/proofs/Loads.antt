@@ -7,7 +7,7 @@ use Rattle.history.proofs.Noted.{accepted, opened_count, count_same, count_other
 use Rattle.history.proofs.Totals.{total_opened, total_noted, total_bound}
 use Rattle.history.specs.Histories.{History, opened, count, total, noted}
 use Rattle.history.specs.Notes.{Answer, Made, empty, more, note_answer, after_note, placed}
-use Rattle.history.specs.RunFiles.{Record, Notes, none, next, Stops, InTurn, RecordsInTurn, LoadPlaces, and_then, noting, records, file_answer}
+use Rattle.history.specs.RunFiles.{Record, Notes, none, next, Stops, InTurn, RecordsInTurn, LoadPlaces, and_then, noting, records, record_of, file_answer}
 use Rattle.history.specs.declared.Event.{Event}
 use Rattle.history.specs.declared.Refused.{Refused}
 
@@ -113,6 +113,26 @@ made_total h m =
     made_small : (k : History) → Made k → Small k
     made_small k (empty n _ l) = small_opened n l
     made_small k (more {h = k₀} s e m₀ ok) = small_noted k₀ record { station = s; event = e } (made_small k₀ m₀) ok
+
+-- the first record of eight bytes and more
+pub records_more : (xs : List ℕ) → 8 ≤ length xs
+    → records xs ≡ record_of (get_or xs 0 0) (get_or xs 1 0) (get_or xs 2 0) (get_or xs 3 0) (get_or xs 4 0) (get_or xs 5 0) (get_or xs 6 0) (get_or xs 7 0) ∷ records (drop 8 xs)
+records_more [] l = let z : ⊥ = omega arith in absurd z
+records_more (a ∷ []) l = let z : ⊥ = omega arith in absurd z
+records_more (a ∷ b ∷ []) l = let z : ⊥ = omega arith in absurd z
+records_more (a ∷ b ∷ c ∷ []) l = let z : ⊥ = omega arith in absurd z
+records_more (a ∷ b ∷ c ∷ d ∷ []) l = let z : ⊥ = omega arith in absurd z
+records_more (a ∷ b ∷ c ∷ d ∷ e ∷ []) l = let z : ⊥ = omega arith in absurd z
+records_more (a ∷ b ∷ c ∷ d ∷ e ∷ f ∷ []) l = let z : ⊥ = omega arith in absurd z
+records_more (a ∷ b ∷ c ∷ d ∷ e ∷ f ∷ g ∷ []) l = let z : ⊥ = omega arith in absurd z
+records_more (a ∷ b ∷ c ∷ d ∷ e ∷ f ∷ g ∷ i ∷ xs) l = refl
+
+-- one accepted record: what is left leads where it led before
+pub noting_more : (h : History) (n : ℕ) (r : Record) (rs : List Record) → note_answer h r.station r.event ≡ Ok tt
+    → noting h n (r ∷ rs) ≡ noting (after_note h r.station r.event) (n + 1) rs
+noting_more h n r rs ok =
+    ap (λ a. and_then (placed (n + 1) a) (noting (noted h r.station r.event) (n + 1) rs)) ok
+    ∙ ap (λ a. noting (cond (is_ok a) (noted h r.station r.event) h) (n + 1) rs) (sym ok)
 
 -- one event more with each accepted record
 pub total_more : (h : History) (s : ℕ) (e : Event) → note_answer h s e ≡ Ok tt → total (after_note h s e) ≡ total h + 1

@@ -50,7 +50,7 @@ impl<'a> Table<'a> {
             arcs,
         };
         if !parts.is_lawful() {
-            return Err(Refusal::BadTable.at(0));
+            Err(Refusal::BadTable)?;
         }
         *self = Table { parts };
         Ok(())

@@ -7,31 +7,55 @@ use history::Label;
 use monitor::{Both, Either, Monitor, Only};
 use rule::RuleLine;
 
-// Lines and combinations are boxed, so that a level is hardly larger than the one below: the gate builds the program with two
-// compilers, and one of them cannot build levels of levels that hold their parts.
-#[derive(Drop)]
-pub enum Level<M> {
-    One(M),
-    Line(Box<RuleLine>),
-    Either(Box<Either<M, M>>),
-    Both(Box<Both<M, M>>),
-    Only(Box<Only<M>>),
+// What a level is of its two parts.
+#[derive(Clone, Copy)]
+pub enum Kind<'a> {
+    // The left part alone.
+    One,
+    // A rule line, and no part.
+    Line(&'a RuleLine),
+    Either,
+    Both,
+    // The left part, with a mask.
+    Only(u32),
+}
+
+// A level is a plain value: making one for a question takes no memory.
+// Kept: a kind beside two parts. An enum over the combinations is slower where it boxes them, and where it holds them, of the two
+// compilers with which the gate builds the program one cannot build it.
+#[derive(Clone, Copy)]
+pub struct Level<'a, M> {
+    pub kind: Kind<'a>,
+    pub left: M,
+    pub right: M,
 }
 
 // What the monitor of a level answers, whichever it is.
 macro_rules! ask {
     ($level:expr, $monitor:ident => $answer:expr) => {
-        match $level {
-            Level::One($monitor) => $answer,
-            Level::Line($monitor) => $answer,
-            Level::Either($monitor) => $answer,
-            Level::Both($monitor) => $answer,
-            Level::Only($monitor) => $answer,
+        match $level.kind {
+            Kind::One => {
+                let $monitor = $level.left;
+                $answer
+            }
+            Kind::Line($monitor) => $answer,
+            Kind::Either => {
+                let $monitor = Either::new($level.left, $level.right);
+                $answer
+            }
+            Kind::Both => {
+                let $monitor = Both::new($level.left, $level.right);
+                $answer
+            }
+            Kind::Only(mask) => {
+                let $monitor = Only::new(mask, $level.left);
+                $answer
+            }
         }
     };
 }
 
-impl<M: Monitor> Monitor for Level<M> {
+impl<M: Monitor + Copy> Monitor for Level<'_, M> {
     ghost meaning = { level M.Monitor.meaning };
 
     ghost lawful = { level_lawful M.Monitor.meaning M.Monitor.lawful };

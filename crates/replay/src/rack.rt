@@ -2,20 +2,21 @@
 use crate::answer::Answer;
 use crate::call::{CallError, Question};
 use crate::level::Level;
-use crate::recipe::{Make, Recipe, Recipes};
+use crate::recipe::{Make, Placed, Recipe};
 use monitor::{Monitor, Table};
 use std::alloc::{AllocError, Global};
-use std::collections::BTreeMap;
+use std::collections::HashMap;
 
 #[derive(Drop)]
 pub struct Rack {
     heap: Global,
-    recipes: Recipes,
+    // The place of each name's monitor.
+    places: HashMap<String, usize>,
+    monitors: Vec<Placed>,
 }
 
-// Combinations of tables four deep, and of rule lines three deep, which is as deep as scripts go. (One level more is beyond what the
-// check can carry.)
-type Deep<'a> = Level<Level<Level<Level<Table<'a>>>>>;
+// Combinations of tables four deep, and of rule lines three deep, which is as deep as scripts go.
+type Deep<'a> = Level<'a, Level<'a, Level<'a, Level<'a, Table<'a>>>>>;
 
 fn asked<M: Monitor>(monitor: &M, question: Question) -> Answer {
     match question {
@@ -30,42 +31,54 @@ impl Rack {
     pub fn new(heap: Global) -> Rack {
         Rack {
             heap,
-            recipes: BTreeMap::new(heap),
+            places: HashMap::new(heap),
+            monitors: Vec::new(heap),
         }
     }
 
-    fn knows(&self, name: &str) -> bool {
-        self.recipes.contains_key(name)
-    }
-
-    // Whether all that a monitor is made of is known.
-    fn knows_parts(&self, recipe: &Recipe) -> bool {
-        match recipe {
-            Recipe::Table(_) | Recipe::Line(_) => true,
-            Recipe::Either(left, right) | Recipe::Both(left, right) => {
-                self.knows(left.as_str()) && self.knows(right.as_str())
-            }
-            Recipe::Only(_, below) => self.knows(below.as_str()),
-        }
+    fn place(&self, name: &str) -> Result<usize, CallError> {
+        self.places.get(name).copied().ok_or(CallError::Unknown)
     }
 
     // Puts a monitor under a name, which may be new.
-    pub(crate) fn keep(&mut self, name: String, recipe: Recipe) -> Result<Answer, CallError> {
-        if !self.knows_parts(&recipe) {
-            return Err(CallError::Unknown);
+    fn put(&mut self, name: String, monitor: Placed) -> Result<Answer, CallError> {
+        let known = self.places.get(name.as_str()).copied();
+        match known.and_then(|at| self.monitors.get_mut(at)) {
+            Some(kept) => *kept = monitor,
+            None => {
+                self.places
+                    .insert(name, self.monitors.len())
+                    .map_err(AllocError::from)?;
+                self.monitors.push(monitor).map_err(AllocError::from)?;
+            }
         }
-        if let Err(why) = recipe.tried() {
-            return Ok(Answer::Refused(why));
-        }
-        self.recipes.insert(name, recipe).map_err(AllocError::from)?;
         Ok(Answer::Done)
     }
 
+    // Keeps the monitor that is described, unless it is refused or one of its parts is not known.
+    pub(crate) fn keep(&mut self, name: String, recipe: Recipe) -> Result<Answer, CallError> {
+        let monitor = match recipe {
+            Recipe::Table(bytes) => match bytes.table() {
+                Ok(_table) => Placed::Table(bytes),
+                Err(why) => return Ok(Answer::Refused(why)),
+            },
+            Recipe::Line(bytes) => match bytes.line() {
+                Ok(line) => Placed::Line(Box::new(self.heap, line).map_err(AllocError::from)?),
+                Err(why) => return Ok(Answer::Refused(why)),
+            },
+            Recipe::Either(left, right) => {
+                Placed::Either(self.place(left.as_str())?, self.place(right.as_str())?)
+            }
+            Recipe::Both(left, right) => {
+                Placed::Both(self.place(left.as_str())?, self.place(right.as_str())?)
+            }
+            Recipe::Only(mask, below) => Placed::Only(mask, self.place(below.as_str())?),
+        };
+        self.put(name, monitor)
+    }
+
     pub(crate) fn ask(&self, name: &str, question: Question) -> Result<Answer, CallError> {
-        if !self.knows(name) {
-            return Err(CallError::Unknown);
-        }
-        let monitor = Deep::make(self.heap, &self.recipes, name)?;
+        let monitor = Deep::make(&self.monitors, self.place(name)?);
         Ok(asked(&monitor, question))
     }
 }

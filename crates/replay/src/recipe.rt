@@ -1,12 +1,10 @@
 // The monitors of a script: how each is made, and the monitor itself, made anew for each question.
 ghost use Rattle.replay.specs.Recipes.{TableOf, LineOf};
 
-use crate::level::Level;
+use crate::level::{Kind, Level};
 use history::Refused;
-use monitor::{Both, Either, Monitor, Only, Table};
+use monitor::{Monitor, Table};
 use rule::RuleLine;
-use std::alloc::{AllocError, Global};
-use std::collections::BTreeMap;
 
 // The numbers and bytes of a table.
 #[derive(Drop)]
@@ -22,7 +20,7 @@ pub struct TableBytes {
 #[derive(Drop)]
 pub struct LineBytes(pub Vec<u8>);
 
-// A monitor is a table, a rule line, or a combination of monitors by their names.
+// A monitor as a call describes it: a table, a rule line, or a combination of monitors by their names.
 #[derive(Drop)]
 pub enum Recipe {
     Table(TableBytes),
@@ -32,8 +30,16 @@ pub enum Recipe {
     Only(u32, String),
 }
 
-// How the monitors of a script are made, by their names.
-pub type Recipes = BTreeMap<String, Recipe>;
+// A monitor as it is kept; a rule line is read once.
+// Kept: parts by their places. By names, a question would look up each part, and each combination would hold its parts' names.
+#[derive(Drop)]
+pub enum Placed {
+    Table(TableBytes),
+    Line(Box<RuleLine>),
+    Either(usize, usize),
+    Both(usize, usize),
+    Only(u32, usize),
+}
 
 impl TableBytes {
     pub fn table(&self) -> Result<Table<'_>, Refused>
@@ -61,53 +67,36 @@ impl LineBytes {
     }
 }
 
-impl Recipe {
-    // Whether the monitor can be made, as far as it lies in the recipe itself.
-    pub(crate) fn tried(&self) -> Result<(), Refused> {
-        match self {
-            Recipe::Table(bytes) => bytes.table().map(|_table| ()),
-            Recipe::Line(bytes) => bytes.line().map(|_line| ()),
-            Recipe::Either(..) | Recipe::Both(..) | Recipe::Only(..) => Ok(()),
-        }
-    }
+// A monitor that can be made of what is kept at a place.
+pub trait Make<'a>: Monitor + Copy {
+    fn make(monitors: &'a [Placed], at: usize) -> Self;
 }
 
-// A monitor that can be made of the recipe of a name.
-pub trait Make<'a>: Monitor + Drop {
-    fn make(heap: Global, recipes: &'a Recipes, name: &str) -> Result<Self, AllocError>;
-}
-
-// A table; a new one where the recipe is none.
+// A table; a new one where there is none.
 impl<'a> Make<'a> for Table<'a> {
-    fn make(_heap: Global, recipes: &'a Recipes, name: &str) -> Result<Table<'a>, AllocError> {
-        match recipes.get(name) {
-            Some(Recipe::Table(bytes)) => Ok(bytes.table().unwrap_or(Table::new())),
-            _ => Ok(Table::new()),
+    fn make(monitors: &'a [Placed], at: usize) -> Table<'a> {
+        match monitors.get(at) {
+            Some(Placed::Table(bytes)) => bytes.table().unwrap_or(Table::new()),
+            _ => Table::new(),
         }
     }
 }
 
-impl<'a, M: Make<'a>> Make<'a> for Level<M> {
-    fn make(heap: Global, recipes: &'a Recipes, name: &str) -> Result<Level<M>, AllocError> {
-        let made = |part: &String| M::make(heap, recipes, part.as_str());
-        match recipes.get(name) {
-            Some(Recipe::Line(bytes)) => {
-                let line = bytes.line().unwrap_or(RuleLine::new());
-                Ok(Level::Line(Box::new(heap, line)?))
-            }
-            Some(Recipe::Either(left, right)) => {
-                let either = Either::new(made(left)?, made(right)?);
-                Ok(Level::Either(Box::new(heap, either)?))
-            }
-            Some(Recipe::Both(left, right)) => {
-                let both = Both::new(made(left)?, made(right)?);
-                Ok(Level::Both(Box::new(heap, both)?))
-            }
-            Some(Recipe::Only(mask, below)) => {
-                let only = Only::new(*mask, made(below)?);
-                Ok(Level::Only(Box::new(heap, only)?))
-            }
-            _ => Ok(Level::One(M::make(heap, recipes, name)?)),
+impl<'a, M: Make<'a>> Make<'a> for Level<'a, M> {
+    fn make(monitors: &'a [Placed], at: usize) -> Level<'a, M> {
+        // Where a level has no part, a blank stands, which nothing asks: at that place nothing is kept.
+        let none = monitors.len();
+        let (kind, left, right) = match monitors.get(at) {
+            Some(Placed::Line(line)) => (Kind::Line(line), none, none),
+            Some(Placed::Either(left, right)) => (Kind::Either, *left, *right),
+            Some(Placed::Both(left, right)) => (Kind::Both, *left, *right),
+            Some(Placed::Only(mask, below)) => (Kind::Only(*mask), *below, none),
+            _ => (Kind::One, at, none),
+        };
+        Level {
+            kind,
+            left: M::make(monitors, left),
+            right: M::make(monitors, right),
         }
     }
 }

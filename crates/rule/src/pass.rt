@@ -84,26 +84,27 @@ impl Pass {
         requires here_le_weight { self.here ≤ self.weight }
         ensures { result ≡ valued_of letters.now.guards.now letters.now.event item self }
     {
-        // The stack without its last value, and without its last two.
-        let one = self.stack / 2;
-        let two = one / 2;
         let last = low(self.stack);
-        let earlier = low(one);
+        let earlier = low(self.stack / 2);
         let looked = low(self.ahead);
         match item as char {
-            '!' => self.put(one, !last),
-            '&' => self.put(two, earlier && last),
-            '|' => self.put(two, earlier || last),
-            'X' | 'W' | 'Y' => self.put(one, looked).keep(last),
-            'G' | 'H' => self.put(one, last && looked).keep(last && looked),
-            'F' | 'O' => self.put(one, last || looked).keep(last || looked),
+            '!' => self.put(self.stack / 2, !last),
+            '&' => self.put(self.stack / 2 / 2, earlier && last),
+            '|' => self.put(self.stack / 2 / 2, earlier || last),
+            'X' | 'W' | 'Y' => self.put(self.stack / 2, looked).keep(last),
+            'G' | 'H' => self
+                .put(self.stack / 2, last && looked)
+                .keep(last && looked),
+            'F' | 'O' => self
+                .put(self.stack / 2, last || looked)
+                .keep(last || looked),
             'U' | 'S' => {
                 let value = last || earlier && looked;
-                self.put(two, value).keep(value)
+                self.put(self.stack / 2 / 2, value).keep(value)
             }
             'V' => {
                 let value = last && (earlier || looked);
-                self.put(two, value).keep(value)
+                self.put(self.stack / 2 / 2, value).keep(value)
             }
             _ => self.put(self.stack, letters.hold(item)),
         }

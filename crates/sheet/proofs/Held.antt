@@ -12,7 +12,7 @@ use Rattle.history.proofs.Nth.{nth_push, nth_last, nth_there, nth_has, nth_map}
 use Rattle.history.specs.Clocks.{Clock, Clocked, missing, of_event}
 use Rattle.history.specs.Histories.{opened, events_of, event, count, total, noted, nth, wait, wait_of}
 use Rattle.sheet.proofs.Tables.{get_or_map_default}
-use Rattle.sheet.specs.Tables.{filled, rows, row, slot_count, event_in, clock_in, held, Kept, counts, next_clock}
+use Rattle.sheet.specs.Tables.{filled, there, rows, row, slot_count, event_in, clock_in, held, Kept, counts, next_clock}
 use Rattle.sheet.specs.declared.table.Slot.{Slot}
 use Rattle.sheet.specs.declared.table.Station.{Station}
 use Rattle.sheet.specs.declared.table.Table.{Table}
@@ -27,7 +27,7 @@ pub held_count : (t : Table) (s : ℕ) → count (held t) s ≡ length (row t s)
 held_count t s = ap length (held_events t s) ∙ length-map (row t s) event_in
 
 pub held_total : (t : Table) → total (held t) ≡ slot_count t
-held_total t = summed t.stations.items
+held_total t = summed (there t)
   where
     summed : (xs : List Station) → total (map (map event_in) (map filled xs)) ≡ sum_by (λ x. length (filled x)) xs
     summed [] = refl

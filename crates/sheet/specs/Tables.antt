@@ -1,5 +1,5 @@
 -- What a table holds.
-use Rattle.std.specs.Prelude.{◌≡◌, ℕ, suc, List, [], map, length, Some, None, Option, slice_index_or, slice_set}
+use Rattle.std.specs.Prelude.{◌≡◌, ℕ, suc, List, [], map, length, take, Some, None, Option, slice_index_or, slice_set}
 use Rattle.std.specs.List.{sum_by}
 use Rattle.history.specs.Clocks.{Clock, larger, zeros}
 use Rattle.history.specs.Histories.{History, nth}
@@ -9,11 +9,16 @@ use Rattle.sheet.specs.declared.table.Slot.{Slot}
 use Rattle.sheet.specs.declared.table.Station.{Station}
 use Rattle.sheet.specs.declared.table.Table.{Table}
 
+-- the slots of a station that hold its events
 abbrev pub filled : Station → List Slot
-filled s = s.slots.items
+filled s = take s.len s.slots
+
+-- the stations that the table has
+abbrev pub there : Table → List Station
+there t = take t.count t.stations
 
 abbrev pub rows : Table → List (List Slot)
-rows t = map filled t.stations.items
+rows t = map filled (there t)
 
 -- the slots of station s; none where it is not there
 abbrev pub row : Table → ℕ → List Slot
@@ -21,7 +26,7 @@ row t s = slice_index_or (rows t) s []
 
 -- how many slots all stations have
 abbrev pub slot_count : Table → ℕ
-slot_count t = sum_by (λ s. length (filled s)) t.stations.items
+slot_count t = sum_by (λ s. length (filled s)) (there t)
 
 abbrev pub event_in : Slot → Event
 event_in x = x.event

@@ -87,7 +87,7 @@ impl Sheet {
         ensures kept { is_err result ≡ true → self.new ≡ self.old }
     {
         if !is_station_count(count) {
-            return Err(Refusal::StationCount.at(0));
+            Err(Refusal::StationCount)?;
         }
         *self = Sheet::empty(count);
         Ok(())

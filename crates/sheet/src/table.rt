@@ -1,11 +1,10 @@
 // The table of a sheet: for each station its events with their clocks. Plain values, without an invariant.
-ghost use Rattle.std.specs.Prelude.{◌≡◌, ◌<◌, ◌≤◌, [], ◌∷◌, ◌++◌, length, replicate, slice_set};
+ghost use Rattle.std.specs.Prelude.{◌≡◌, ◌<◌, ◌≤◌, [], ◌∷◌, ◌++◌, length, replicate, slice_set, MatchOption};
 ghost use Rattle.history.specs.Histories.{nth};
 ghost use Rattle.history.specs.Notes.{allowed_count};
-ghost use Rattle.sheet.specs.Tables.{rows, row, slot_count, counts, next_clock};
+ghost use Rattle.sheet.specs.Tables.{filled, there, rows, row, slot_count, counts, next_clock};
 
 use crate::clocks::merged;
-use arrayvec::ArrayVec;
 use history::{Event, EventId, Wait};
 
 // The most events of a station, and the most stations.
@@ -27,31 +26,61 @@ pub(crate) struct Slot {
     pub(crate) clock: [u8; 8],
 }
 
-// The events of a station, the first event first.
-#[derive(Default, Drop)]
+// The first `len` slots hold the station's events, the first event first.
+// Kept: arrays with a count beside, here and in the table. A list of fixed capacity shows a contract only what it holds, and a
+// refused call leaves every slot of a sheet, those too that no call can read.
+#[derive(Clone, Copy)]
 pub(crate) struct Station {
-    slots: ArrayVec<Slot, EVENTS>,
+    slots: [Slot; EVENTS],
+    len: u8,
 }
 
-#[derive(Drop)]
+// The first `count` stations are the table's.
+#[derive(Clone, Copy)]
 pub(crate) struct Table {
-    stations: ArrayVec<Station, STATIONS>,
+    stations: [Station; STATIONS],
+    count: u8,
 }
 
 impl Station {
+    fn empty() -> Station
+        ensures { filled result ≡ [] }
+    {
+        Station {
+            slots: [Slot::default(); EVENTS],
+            len: 0,
+        }
+    }
+
+    // The slots of its events.
+    fn held(&self) -> &[Slot]
+        ensures is { result.now ≡ filled self.now }
+        ensures few { length result.now ≤ 64 }
+    {
+        &self.slots[..usize::from(self.len).min(EVENTS)]
+    }
+
     fn events(&self) -> u8
-        ensures is { result ≡ length self.now.slots.items }
+        ensures is { result ≡ length (filled self.now) }
         ensures few { result ≤ 64 }
     {
-        self.slots.len() as u8
+        self.held().len() as u8
     }
 
     // The slot of the event of that number, counted from 1.
     fn slot(&self, number: u8) -> Option<Slot>
-        ensures { result ≡ nth self.now.slots.items number }
+        ensures { result ≡ nth (filled self.now) number }
     {
         let index = number.checked_sub(1)?;
-        self.slots.get(index as usize).copied()
+        self.held().get(index as usize).copied()
+    }
+
+    fn push(&mut self, slot: Slot)
+        requires { length (filled self.old) < 64 }
+        ensures { filled self.new ≡ filled self.old ++ slot ∷ [] }
+    {
+        self.slots[self.len as usize] = slot;
+        self.len += 1;
     }
 }
 
@@ -61,18 +90,35 @@ impl Table {
         requires { count ≤ 8 }
         ensures { rows result ≡ replicate count [] }
     {
-        let mut stations = ArrayVec::new();
-        for _ in 0..count {
-            stations.push(Station::default());
+        Table {
+            stations: [Station::empty(); STATIONS],
+            count,
         }
-        Table { stations }
+    }
+
+    // The stations that the table has.
+    fn there(&self) -> &[Station]
+        ensures is { result.now ≡ there self.now }
+        ensures few { length result.now ≤ 8 }
+    {
+        &self.stations[..usize::from(self.count).min(STATIONS)]
     }
 
     // How many stations there are.
     pub(crate) fn stations(&self) -> u8
         ensures { result ≡ length (rows self.now) }
     {
-        self.stations.len() as u8
+        self.there().len() as u8
+    }
+
+    // The station, where it is there.
+    fn station(&self, station: u8) -> Option<&Station>
+        ensures { MatchOption result (row self.now station ≡ []) (λ x. filled x.now ≡ row self.now station) }
+    {
+        if station >= self.count {
+            return None;
+        }
+        self.stations.get(station as usize)
     }
 
     // How many events the station holds: none where it is not there.
@@ -80,16 +126,14 @@ impl Table {
         ensures is { result ≡ length (row self.now station) }
         ensures few { result ≤ 64 }
     {
-        self.stations
-            .get(station as usize)
-            .map_or(0, Station::events)
+        self.station(station).map_or(0, Station::events)
     }
 
     // How many events all stations hold.
     pub(crate) fn total(&self) -> u16
         ensures { result ≡ slot_count self.now }
     {
-        self.stations
+        self.there()
             .iter()
             .map(|station| u16::from(station.events()))
             .sum()
@@ -98,8 +142,7 @@ impl Table {
     pub(crate) fn slot(&self, event: EventId) -> Option<Slot>
         ensures { result ≡ nth (row self.now event.station) event.number }
     {
-        let station = self.stations.get(event.station as usize)?;
-        station.slot(event.number)
+        self.station(event.station)?.slot(event.number)
     }
 
     // The event's clock, all zeros where it is not there.
@@ -135,6 +178,6 @@ impl Table {
         ensures { rows self.new ≡ slice_set (rows self.old) station (row self.old station ++ slot ∷ []) }
     {
         let one = &mut self.stations[station as usize];
-        one.slots.push(slot);
+        one.push(slot);
     }
 }
